@@ -1,0 +1,20 @@
+-- What a call answers: a value, or a refusal by its number and its place.
+use mathlib.Core.Bool.{Bool, cond}
+use mathlib.Core.List.{List}
+use Prim.Native.Nat.{ℕ}
+use Rattle.std.specs.declared.result.Result.{Result}
+use Rattle.std.specs.declared.result.Result.the-variants.{Ok, Err}
+use Rattle.terms.specs.Refusals.{numberOf, placeOf}
+use Rattle.terms.specs.declared.refusals.Refusal.{Refusal}
+
+pub data Answer (T : Type 0) : Type 0 where
+  gives : T → Answer T
+  refuses : ℕ → List ℕ → Answer T
+
+abbrev pub answered : {T : Type 0} → Result T Refusal → Answer T
+answered (Ok x) = gives x
+answered (Err e) = refuses (numberOf e) (placeOf e)
+
+-- One test in a row of them: where it passes, what follows decides, else it is refusal n at this place.
+abbrev pub tested : {T : Type 0} → Bool → ℕ → List ℕ → Answer T → Answer T
+tested passes n place next = cond passes next (refuses n place)

@@ -1,0 +1,5 @@
+// What every layer shares: the refusals, each with its number and its place.
+mod refusals;
+
+pub use refusals::Refusal;
+pub use refusals::RefusalDisplay;
