@@ -1,0 +1,4 @@
+pub mod Depths
+pub mod Grows
+pub mod Numbers
+pub mod Ready

@@ -1,0 +1,12 @@
+// Metering trees: classes and points, the draft in which points are entered, the tree in service,
+// and the tree text.
+mod classes;
+mod tables;
+mod trees;
+
+pub use classes::Class;
+pub use classes::ClassDisplay;
+pub use classes::Point;
+pub use classes::PointDisplay;
+pub use trees::Draft;
+pub use trees::Tree;

@@ -1,0 +1,50 @@
+// The table as a list of points.
+ghost use mathlib.Core.Path.{_≡_};
+ghost use mathlib.Core.List.{[], _∷_, _++_};
+ghost use Prim.Native.Nat.{_<_, _≤_};
+ghost use lib.ListN.{length, take};
+ghost use Rattle.std.specs.Vec.{made};
+ghost use Rattle.topology.specs.Tables.{listed};
+use super::Table;
+use crate::classes::Point;
+use std::alloc::AllocError;
+use std::alloc::Global;
+
+impl Table {
+    pub fn new(heap: Global) -> Result<Table, AllocError>
+        ensures { λ r. ⌜ made r (λ t. listed t ≡ []) ⌝ }
+    {
+        let records = Vec::with_capacity(heap, 128)?;
+        Ok(Table { records })
+    }
+
+    pub fn points(&self) -> &[Point]
+        ensures { λ r. ⌜ now r ≡ listed (now (self .entry)) ⌝ }
+    {
+        self.records.as_slice()
+    }
+
+    // One point more, where there is room.
+    pub fn push(&mut self, point: Point)
+        requires { ⌜ length (listed (now self)) < 128 ⌝ }
+        ensures { λ _. ⌜ listed (now (self .exit)) ≡ listed (now (self .entry)) ++ point ∷ [] ⌝ }
+    {
+        self.records.push_reserved(point);
+    }
+
+    // Keeps the first points only.
+    pub fn truncate(&mut self, count: usize)
+        ensures { λ _. ⌜ listed (now (self .exit)) ≡ take count (listed (now (self .entry))) ⌝ }
+    {
+        self.records.truncate(count);
+    }
+
+    // Takes these points in place of its own.
+    pub fn refill(&mut self, points: &[Point])
+        requires { ⌜ length (now points) ≤ 128 ⌝ }
+        ensures { λ _. ⌜ listed (now (self .exit)) ≡ now (points .entry) ⌝ }
+    {
+        self.records.clear();
+        let _ = self.records.extend_from_slice(points);
+    }
+}

@@ -1,0 +1,64 @@
+// A draft goes into service.
+ghost use mathlib.Core.Path.{_≡_};
+ghost use Rattle.std.specs.Options.{Cases};
+ghost use Rattle.std.specs.Vec.{made};
+ghost use Rattle.topology.specs.Rules.{Complete};
+ghost use Rattle.topology.specs.Service.{builtIn, FirstUnready, Serviced};
+ghost use Rattle.topology.specs.Trees.{pointsIn, pointsOf};
+use super::Draft;
+use super::Tree;
+use crate::classes::Class;
+use crate::classes::Point;
+use crate::tables::Table;
+use crate::tables::counts::count_members;
+use crate::tables::counts::count_roots;
+use std::alloc::AllocError;
+use std::alloc::Global;
+use terms::Refusal;
+
+// The first network that lacks a member, or the main one where there is no root.
+fn first_unready(points: &[Point]) -> Option<usize>
+    ensures { λ r. ⌜ Cases r (Complete (now (points .entry))) (FirstUnready (now (points .entry))) ⌝ }
+{
+    if count_roots(points) == 0 || count_members(points, 0) == 0 {
+        return Some(0);
+    }
+    for (i, q) in points.iter().enumerate() {
+        if q.class.is_monitor() && count_members(points, i + 1) == 0 {
+            return Some(i + 1);
+        }
+    }
+    None
+}
+
+impl Draft {
+    // Fills the tree with the points of the draft. A refusal leaves the tree as it was.
+    pub fn put_into_service(&self, tree: &mut Tree) -> Result<(), Refusal>
+        ensures { λ r. ⌜ Serviced (pointsIn (now (self .entry))) r (pointsOf (now (tree .entry))) (pointsOf (now (tree .exit))) ⌝ }
+    {
+        let points = self.table.points();
+        if let Some(network) = first_unready(points) {
+            return Err(Refusal::NotReady { network });
+        }
+        tree.table.refill(points);
+        Ok(())
+    }
+}
+
+impl Tree {
+    // The tree before any draft has gone into service: a root and one member.
+    pub fn built_in(heap: Global) -> Result<Tree, AllocError>
+        ensures { λ r. ⌜ made r (λ t. pointsOf t ≡ builtIn) ⌝ }
+    {
+        let mut table = Table::new(heap)?;
+        table.push(Point {
+            class: Class::Root,
+            parent: 0,
+        });
+        table.push(Point {
+            class: Class::Member,
+            parent: 0,
+        });
+        Ok(Tree { table })
+    }
+}
