@@ -1,4 +1,10 @@
 pub mod Depths
 pub mod Grows
+pub mod Judging
+pub mod LineShapes
 pub mod Numbers
+pub mod Once
+pub mod Reading
 pub mod Ready
+pub mod Texts
+pub mod Writing

@@ -4,5 +4,7 @@ pub mod Points
 pub mod Questions
 pub mod Rules
 pub mod Service
+pub mod Shapes
 pub mod Tables
+pub mod Text
 pub mod Trees

@@ -1,6 +1,7 @@
 // Metering trees: classes and points, the draft in which points are entered, the tree in service,
 // and the tree text.
 mod classes;
+mod lines;
 mod tables;
 mod trees;
 
@@ -10,3 +11,5 @@ pub use classes::Point;
 pub use classes::PointDisplay;
 pub use trees::Draft;
 pub use trees::Tree;
+pub use trees::text::read_tree;
+pub use trees::text::texts_read_once;

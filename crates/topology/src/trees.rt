@@ -5,6 +5,7 @@ use crate::tables::Table;
 
 mod entries;
 mod service;
+pub mod text;
 
 // The points entered so far, which keep to every rule and limit.
 #[derive(Drop)]
