@@ -19,7 +19,7 @@ use Rattle.topology.specs.declared.classes.Class.{Class}
 use Rattle.topology.specs.declared.classes.Class.the-variants.{Root, Member, Monitor, Embedded}
 use Rattle.topology.specs.declared.classes.Point.{Point}
 use Rattle.topology.proofs.Depths.{fits-le, parent-earlier, depth-step}
-use Rattle.topology.proofs.Numbers.{point-before, point-last, point-past}
+use Rattle.topology.proofs.ByNumber.{point-before, point-last, point-past}
 
 guarded : (b x y : Bool) → (b ≡ true → x ≡ y) → (b && x) ≡ (b && y)
 guarded true x y h = h refl

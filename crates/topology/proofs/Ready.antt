@@ -13,7 +13,7 @@ use Rattle.topology.specs.Points.{noPoint, point, isNetwork, members, roots}
 use Rattle.topology.specs.Rules.{Complete}
 use Rattle.topology.specs.Service.{Unready}
 use Rattle.topology.specs.declared.classes.Point.{Point}
-use Rattle.topology.proofs.Numbers.{point-next, point-past}
+use Rattle.topology.proofs.ByNumber.{point-next, point-past}
 
 module _ (ps : List Point) where
   -- point i + 1 monitors nothing, or a network that has a member

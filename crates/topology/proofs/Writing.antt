@@ -28,7 +28,7 @@ use Rattle.topology.specs.declared.classes.Point.{Point}
 use Rattle.topology.proofs.Depths.{depth-step, fits-le}
 use Rattle.topology.proofs.Grows.{depth-before, fits-before}
 use Rattle.topology.proofs.Judging.{class-of-letter, parent-small, passed-judged}
-use Rattle.topology.proofs.Numbers.{point-next}
+use Rattle.topology.proofs.ByNumber.{point-next}
 use Rattle.topology.proofs.Once.{first-enters, others-enter}
 
 -- the first points of a list that keeps the rules keep them too

@@ -1,5 +1,6 @@
 pub mod Classes
 pub mod Entries
+pub mod Numbers
 pub mod Points
 pub mod Questions
 pub mod Rules

@@ -61,3 +61,12 @@ depthIn ps (suc k) m = cond (eqb m 0) 1 (1 + depthIn ps k (parentOf ps m))
 
 abbrev pub depth : List Point → ℕ → ℕ
 depth ps m = depthIn ps m m
+
+-- what makes up the depth of each network, one by one
+abbrev pub DepthRule : List Point → Type 0
+DepthRule ps = (depth ps 0 ≡ 1) × ((m : ℕ) → 0 < m → depth ps m ≡ 1 + depth ps (parentOf ps m))
+
+-- p lies beneath m: following parents from p leads to m
+pub data Beneath (ps : List Point) (m : ℕ) : ℕ → Type 0 where
+  child : {p : ℕ} → parentOf ps p ≡ m → Beneath ps m p
+  deeper : {p : ℕ} → Beneath ps m (parentOf ps p) → Beneath ps m p

@@ -2,6 +2,7 @@
 // and the tree text.
 mod classes;
 mod lines;
+mod numbers;
 mod tables;
 mod trees;
 
@@ -9,6 +10,8 @@ pub use classes::Class;
 pub use classes::ClassDisplay;
 pub use classes::Point;
 pub use classes::PointDisplay;
+pub use numbers::Numbers;
+pub use numbers::NumbersIterator;
 pub use trees::Draft;
 pub use trees::Tree;
 pub use trees::text::read_tree;

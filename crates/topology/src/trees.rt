@@ -4,6 +4,7 @@ ghost use Rattle.topology.specs.Tables.{listed};
 use crate::tables::Table;
 
 mod entries;
+mod questions;
 mod service;
 pub mod text;
 

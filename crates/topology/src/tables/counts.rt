@@ -1,8 +1,10 @@
 // What the rules and limits look at, over a list of points.
 ghost use mathlib.Core.Path.{_≡_};
-ghost use Prim.Native.Nat.{_≤_};
+ghost use Prim.Native.Nat.{_<_, _≤_};
 ghost use lib.ListN.{length};
-ghost use Rattle.topology.specs.Points.{depth, members, networks, roots};
+ghost use Rattle.std.specs.Orderings.{Decides};
+ghost use Rattle.topology.specs.Classes.{isMonitor};
+ghost use Rattle.topology.specs.Points.{Beneath, classOf, depth, members, networks, roots};
 ghost use Rattle.topology.specs.Questions.{pointAt};
 ghost use Rattle.topology.specs.Rules.{Placed};
 use crate::classes::Point;
@@ -15,6 +17,16 @@ pub fn point_at(points: &[Point], p: usize) -> Option<Point>
         return None;
     }
     Some(points[p - 1])
+}
+
+// Whether point p monitors a network.
+pub fn is_monitor(points: &[Point], p: usize) -> bool
+    ensures { λ r. ⌜ r ≡ isMonitor (classOf (now (points .entry)) p) ⌝ }
+{
+    match point_at(points, p) {
+        Some(q) => q.class.is_monitor(),
+        None => false,
+    }
 }
 
 pub fn count_roots(points: &[Point]) -> usize
@@ -69,4 +81,20 @@ pub fn depth_of(points: &[Point], network: usize) -> usize
         steps += 1;
     }
     steps
+}
+
+// Whether the parents of a point, one above the other, come to the point `above`.
+pub fn leads_to(points: &[Point], point: usize, above: usize) -> bool
+    requires placed { ⌜ Placed (now points) ⌝ }
+    requires some { ⌜ 0 < above ⌝ }
+    ensures { λ r. ⌜ Decides r (Beneath (now (points .entry)) above point) ⌝ }
+{
+    let mut at = point;
+    while let Some(q) = point_at(points, at) {
+        at = q.parent;
+        if at == above {
+            return true;
+        }
+    }
+    false
 }

@@ -2,7 +2,7 @@ use mathlib.Core.Path.{_≡_, ap}
 use native.Mathlib.Omega.{arith}
 use Rattle.topology.specs.Points.{depth}
 use Rattle.topology.proofs.Depths.{parent-earlier, depth-step}
-use Rattle.topology.proofs.Numbers.{parent-at}
+use Rattle.topology.proofs.ByNumber.{parent-at}
 use Rattle.topology.proofs.tables.counts.depth_of.Needs as need
 
 pub loop-at-again : need.loop-at-again

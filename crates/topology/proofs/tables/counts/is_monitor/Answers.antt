@@ -1,0 +1,9 @@
+use mathlib.Core.Path.{sym, ap}
+use Rattle.topology.specs.Classes.{isMonitor}
+use Rattle.topology.specs.declared.classes.Point.{Point}
+use Rattle.topology.proofs.ByNumber.{none-at}
+use Rattle.topology.proofs.tables.counts.is_monitor.Needs as need
+
+pub returns-in-None : need.returns-in-None
+returns-in-None c =
+    sym (ap (λ (q : Point). isMonitor (q .class)) (none-at (c .args .points .now) (c .args .p) (c .in-None .ensures tt)))
