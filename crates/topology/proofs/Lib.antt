@@ -1,12 +1,2 @@
-pub mod ByNumber
-pub mod Depths
-pub mod Grows
-pub mod Judging
-pub mod LineShapes
-pub mod Once
 pub mod Picking
-pub mod Reading
 pub mod Ready
-pub mod Texts
-pub mod Upwards
-pub mod Writing

@@ -8,7 +8,7 @@ use lib.ListN.{length}
 use Rattle.std.proofs.shelf.Tests.{cond-true, cond-false}
 use Rattle.topology.specs.Numbers.{picks, pickedFrom}
 use Rattle.topology.specs.Questions.{picked}
-use Rattle.topology.specs.declared.classes.Point.{Point}
+use Rattle.points.specs.declared.classes.Point.{Point}
 use Rattle.topology.specs.declared.numbers.Choice.{Choice}
 
 module _ (ps : List Point) (choice : Choice) (p : ℕ) (within : p ≤ length ps) where

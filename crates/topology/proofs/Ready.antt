@@ -8,12 +8,12 @@ use native.Mathlib.Omega.{arith}
 use lib.Dec.{eqb}
 use lib.ListN.{length, getD}
 use Rattle.std.proofs.shelf.Tests.{cases-lt, eqb-true, false≢true, or-cases}
-use Rattle.topology.specs.Classes.{isMonitor}
-use Rattle.topology.specs.Points.{noPoint, point, isNetwork, members, roots}
-use Rattle.topology.specs.Rules.{Complete}
+use Rattle.points.specs.Classes.{isMonitor}
+use Rattle.points.specs.Points.{noPoint, point, isNetwork, members, roots}
+use Rattle.points.specs.Rules.{Complete}
 use Rattle.topology.specs.Service.{Unready}
-use Rattle.topology.specs.declared.classes.Point.{Point}
-use Rattle.topology.proofs.ByNumber.{point-next, point-past}
+use Rattle.points.specs.declared.classes.Point.{Point}
+use Rattle.points.proofs.ByNumber.{point-next, point-past}
 
 module _ (ps : List Point) where
   -- point i + 1 monitors nothing, or a network that has a member

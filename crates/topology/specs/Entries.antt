@@ -9,10 +9,10 @@ use Rattle.std.specs.declared.option.Option.the-variants.{Some, None}
 use Rattle.std.specs.declared.result.Result.{Result}
 use Rattle.terms.specs.Answers.{Answer, gives, refuses, answered, tested}
 use Rattle.terms.specs.declared.refusals.Refusal.{Refusal}
-use Rattle.topology.specs.Classes.{classBy}
-use Rattle.topology.specs.Rules.{parentFits, hasRoom}
-use Rattle.topology.specs.declared.classes.Class.{Class}
-use Rattle.topology.specs.declared.classes.Point.{Point}
+use Rattle.points.specs.Classes.{classBy}
+use Rattle.points.specs.Rules.{parentFits, hasRoom}
+use Rattle.points.specs.declared.classes.Class.{Class}
+use Rattle.points.specs.declared.classes.Point.{Point}
 
 -- the place of a refused entry is the number that the point would have
 abbrev pub place : List Point → List ℕ

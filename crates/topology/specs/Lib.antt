@@ -1,11 +1,6 @@
-pub mod Classes
 pub mod Entries
 pub mod Numbers
-pub mod Points
 pub mod Questions
-pub mod Rules
 pub mod Service
-pub mod Shapes
 pub mod Tables
-pub mod Text
 pub mod Trees

@@ -7,9 +7,9 @@ use lib.ListN.{length}
 use denote.Ref.{now}
 use Rattle.std.specs.declared.option.Option.{Option}
 use Rattle.std.specs.declared.option.Option.the-variants.{Some, None}
-use Rattle.topology.specs.Points.{joins, isNetwork}
+use Rattle.points.specs.Points.{joins, isNetwork}
 use Rattle.topology.specs.Questions.{picked}
-use Rattle.topology.specs.declared.classes.Point.{Point}
+use Rattle.points.specs.declared.classes.Point.{Point}
 use Rattle.topology.specs.declared.numbers.Choice.{Choice}
 use Rattle.topology.specs.declared.numbers.Choice.the-variants.{MembersOf, Networks}
 use Rattle.topology.specs.declared.numbers.Numbers.{Numbers}

@@ -1,22 +1,18 @@
 -- What a tree is asked, over the list of its points.
 use mathlib.Core.Path.{_≡_}
-use mathlib.Core.Bool.{Bool, true, cond, _&&_}
+use mathlib.Core.Bool.{Bool, true, cond}
 use mathlib.Core.List.{List, [], _∷_}
 use Prim.Native.Nat.{ℕ, zero, suc, _+_}
-use lib.Dec.{leb, ltb}
 use lib.ListN.{length}
 use Rattle.std.specs.Options.{mapped}
 use Rattle.std.specs.declared.option.Option.{Option}
 use Rattle.std.specs.declared.option.Option.the-variants.{Some, None}
-use Rattle.topology.specs.Classes.{isMember, isMonitor}
-use Rattle.topology.specs.Points.{point, classOf, parentOf, joins, isNetwork, depth, Beneath}
-use Rattle.topology.specs.declared.classes.Class.{Class}
-use Rattle.topology.specs.declared.classes.Point.{Point}
+use Rattle.points.specs.Classes.{isMember, isMonitor}
+use Rattle.points.specs.Points.{classOf, parentOf, pointAt, joins, isNetwork, depth, Beneath}
+use Rattle.points.specs.declared.classes.Class.{Class}
+use Rattle.points.specs.declared.classes.Point.{Point}
 
--- point p, if there is one, its class and its parent
-abbrev pub pointAt : List Point → ℕ → Option Point
-pointAt ps p = cond (ltb 0 p && leb p (length ps)) (Some (point ps p)) None
-
+-- the class and the parent of point p, if there is one
 abbrev pub classAt : List Point → ℕ → Option Class
 classAt ps p = mapped (λ q. q .class) (pointAt ps p)
 

@@ -9,10 +9,10 @@ use Rattle.std.specs.declared.result.Result.the-variants.{Ok, Err}
 use Rattle.terms.specs.Answers.{refuses, answered}
 use Rattle.terms.specs.Refusals.{firstOf, placeOf}
 use Rattle.terms.specs.declared.refusals.Refusal.{Refusal}
-use Rattle.topology.specs.Points.{isNetwork, members, roots}
-use Rattle.topology.specs.Rules.{Complete}
-use Rattle.topology.specs.declared.classes.Class.the-variants.{Root, Member}
-use Rattle.topology.specs.declared.classes.Point.{Point}
+use Rattle.points.specs.Points.{isNetwork, members, roots}
+use Rattle.points.specs.Rules.{Complete}
+use Rattle.points.specs.declared.classes.Class.the-variants.{Root, Member}
+use Rattle.points.specs.declared.classes.Point.{Point}
 
 -- the tree before any draft has gone into service
 abbrev pub builtIn : List Point

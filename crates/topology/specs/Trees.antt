@@ -1,7 +1,7 @@
 -- The points of a draft and of a tree in service.
 use mathlib.Core.List.{List}
 use Rattle.topology.specs.Tables.{listed}
-use Rattle.topology.specs.declared.classes.Point.{Point}
+use Rattle.points.specs.declared.classes.Point.{Point}
 use Rattle.topology.specs.declared.trees.Draft.{Draft}
 use Rattle.topology.specs.declared.trees.Tree.{Tree}
 

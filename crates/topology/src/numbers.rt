@@ -4,7 +4,7 @@ ghost use Prim.Native.Nat.{_+_, _-_};
 ghost use lib.ListN.{length};
 ghost use denote.Ref.{now};
 ghost use Rattle.topology.specs.Numbers.{Gives, numbersLeft, picks};
-use crate::classes::Point;
+use points::Point;
 use crate::tables::counts::point_at;
 
 // Which numbers: those of the members of a network, or those of the networks.

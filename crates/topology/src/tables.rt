@@ -1,7 +1,7 @@
 // A table of point records, with room for every point that a tree may have.
 ghost use Prim.Native.Nat.{_≤_};
 ghost use Rattle.std.specs.Of.Vec.{vec-cap};
-use crate::classes::Point;
+use points::Point;
 
 pub mod counts;
 mod methods;

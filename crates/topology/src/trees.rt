@@ -1,12 +1,11 @@
 // A draft and a tree in service. What always holds of each stands in its type.
-ghost use Rattle.topology.specs.Rules.{Complete, Limited, Placed};
+ghost use Rattle.points.specs.Rules.{Complete, Limited, Placed};
 ghost use Rattle.topology.specs.Tables.{listed};
 use crate::tables::Table;
 
 mod entries;
 mod questions;
 mod service;
-pub mod text;
 
 // The points entered so far, which keep to every rule and limit.
 #[derive(Drop)]

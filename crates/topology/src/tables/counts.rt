@@ -3,11 +3,10 @@ ghost use mathlib.Core.Path.{_≡_};
 ghost use Prim.Native.Nat.{_<_, _≤_};
 ghost use lib.ListN.{length};
 ghost use Rattle.std.specs.Orderings.{Decides};
-ghost use Rattle.topology.specs.Classes.{isMonitor};
-ghost use Rattle.topology.specs.Points.{Beneath, classOf, depth, members, networks, roots};
-ghost use Rattle.topology.specs.Questions.{pointAt};
-ghost use Rattle.topology.specs.Rules.{Placed};
-use crate::classes::Point;
+ghost use Rattle.points.specs.Classes.{isMonitor};
+ghost use Rattle.points.specs.Points.{Beneath, classOf, depth, members, networks, pointAt, roots};
+ghost use Rattle.points.specs.Rules.{Placed};
+use points::Point;
 
 // Point p, if there is one.
 pub fn point_at(points: &[Point], p: usize) -> Option<Point>

@@ -2,11 +2,11 @@
 ghost use mathlib.Core.Path.{_≡_};
 ghost use mathlib.Core.List.{[], _∷_, _++_};
 ghost use Prim.Native.Nat.{_<_, _≤_};
-ghost use lib.ListN.{length, take};
+ghost use lib.ListN.{length};
 ghost use Rattle.std.specs.Vec.{made};
 ghost use Rattle.topology.specs.Tables.{listed};
 use super::Table;
-use crate::classes::Point;
+use points::Point;
 use std::alloc::AllocError;
 use std::alloc::Global;
 
@@ -30,13 +30,6 @@ impl Table {
         ensures { λ _. ⌜ listed (now (self .exit)) ≡ listed (now (self .entry)) ++ point ∷ [] ⌝ }
     {
         self.records.push_reserved(point);
-    }
-
-    // Keeps the first points only.
-    pub fn truncate(&mut self, count: usize)
-        ensures { λ _. ⌜ listed (now (self .exit)) ≡ take count (listed (now (self .entry))) ⌝ }
-    {
-        self.records.truncate(count);
     }
 
     // Takes these points in place of its own.

@@ -5,11 +5,11 @@ ghost use Prim.Native.Nat.{_≤_};
 ghost use lib.ListN.{length};
 ghost use Rattle.std.specs.Vec.{made};
 ghost use Rattle.topology.specs.Entries.{Entered, judged};
-ghost use Rattle.topology.specs.Rules.{hasRoom, Limited, parentFits, Placed};
+ghost use Rattle.points.specs.Rules.{hasRoom, Limited, parentFits, Placed};
 ghost use Rattle.topology.specs.Trees.{pointsIn};
 use super::Draft;
-use crate::classes::Class;
-use crate::classes::Point;
+use points::Class;
+use points::Point;
 use crate::tables::Table;
 use crate::tables::counts::count_members;
 use crate::tables::counts::count_networks;
@@ -67,6 +67,13 @@ impl Draft {
     {
         let table = Table::new(heap)?;
         Ok(Draft { table })
+    }
+
+    // The points entered so far, in the order of their numbers.
+    pub fn points(&self) -> &[Point]
+        ensures { λ r. ⌜ now r ≡ pointsIn (now (self .entry)) ⌝ }
+    {
+        self.table.points()
     }
 
     // Enters a point, and answers its number. A refusal leaves the draft as it was.

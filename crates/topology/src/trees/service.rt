@@ -2,13 +2,13 @@
 ghost use mathlib.Core.Path.{_≡_};
 ghost use Rattle.std.specs.Options.{Cases};
 ghost use Rattle.std.specs.Vec.{made};
-ghost use Rattle.topology.specs.Rules.{Complete};
+ghost use Rattle.points.specs.Rules.{Complete};
 ghost use Rattle.topology.specs.Service.{builtIn, FirstUnready, Serviced};
 ghost use Rattle.topology.specs.Trees.{pointsIn, pointsOf};
 use super::Draft;
 use super::Tree;
-use crate::classes::Class;
-use crate::classes::Point;
+use points::Class;
+use points::Point;
 use crate::tables::Table;
 use crate::tables::counts::count_members;
 use crate::tables::counts::count_roots;

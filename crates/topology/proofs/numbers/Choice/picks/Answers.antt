@@ -1,11 +1,11 @@
 use mathlib.Core.Path.{_≡_, refl, sym, ap, _∙_}
 use mathlib.Core.Bool.{Bool, true, false, _&&_, _||_}
 use lib.Dec.{eqb}
-use Rattle.topology.specs.Classes.{isMember, isMonitor}
+use Rattle.points.specs.Classes.{isMember, isMonitor}
 use Rattle.topology.specs.Numbers.{picks}
-use Rattle.topology.specs.declared.classes.Point.{Point}
+use Rattle.points.specs.declared.classes.Point.{Point}
 use Rattle.topology.specs.declared.numbers.Choice.{Choice}
-use Rattle.topology.proofs.ByNumber.{none-at}
+use Rattle.points.proofs.ByNumber.{none-at}
 use Rattle.topology.proofs.numbers.Choice.picks.Needs as need
 
 or-none : (b : Bool) → b ≡ (b || false)

@@ -1,7 +1,7 @@
 use Prim.Native.Nat.{_≤_}
 use mathlib.Core.Path.{_≡_}
 use lib.ListN.{take}
-use Rattle.topology.specs.Points.{members}
+use Rattle.points.specs.Points.{members}
 use Rattle.topology.proofs.tables.counts.count_members.Given as given
 
 abbrev pub Inv-loop-q : given.InvT-loop-q

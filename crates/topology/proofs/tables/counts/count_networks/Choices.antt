@@ -1,7 +1,7 @@
 use Prim.Native.Nat.{_+_, _≤_}
 use mathlib.Core.Path.{_≡_}
 use lib.ListN.{take}
-use Rattle.topology.specs.Points.{networks}
+use Rattle.points.specs.Points.{networks}
 use Rattle.topology.proofs.tables.counts.count_networks.Given as given
 
 abbrev pub Inv-loop-q : given.InvT-loop-q

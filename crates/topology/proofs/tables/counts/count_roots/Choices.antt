@@ -1,7 +1,7 @@
 use Prim.Native.Nat.{_≤_}
 use mathlib.Core.Path.{_≡_}
 use lib.ListN.{take}
-use Rattle.topology.specs.Points.{roots}
+use Rattle.points.specs.Points.{roots}
 use Rattle.topology.proofs.tables.counts.count_roots.Given as given
 
 abbrev pub Inv-loop-q : given.InvT-loop-q

@@ -1,8 +1,8 @@
 use mathlib.Core.Path.{_≡_, ap}
 use native.Mathlib.Omega.{arith}
-use Rattle.topology.specs.Points.{depth}
-use Rattle.topology.proofs.Depths.{parent-earlier, depth-step}
-use Rattle.topology.proofs.ByNumber.{parent-at}
+use Rattle.points.specs.Points.{depth}
+use Rattle.points.proofs.Depths.{parent-earlier, depth-step}
+use Rattle.points.proofs.ByNumber.{parent-at}
 use Rattle.topology.proofs.tables.counts.depth_of.Needs as need
 
 pub loop-at-again : need.loop-at-again

@@ -1,7 +1,7 @@
 use Prim.Native.Nat.{_+_, _≤_}
 use mathlib.Core.Path.{_≡_}
 use lib.ListN.{length}
-use Rattle.topology.specs.Points.{depth}
+use Rattle.points.specs.Points.{depth}
 use Rattle.topology.proofs.tables.counts.depth_of.Given as given
 
 -- what was counted and what is left above make the depth

@@ -1,7 +1,7 @@
 use mathlib.Core.Path.{sym, ap}
-use Rattle.topology.specs.Classes.{isMonitor}
-use Rattle.topology.specs.declared.classes.Point.{Point}
-use Rattle.topology.proofs.ByNumber.{none-at}
+use Rattle.points.specs.Classes.{isMonitor}
+use Rattle.points.specs.declared.classes.Point.{Point}
+use Rattle.points.proofs.ByNumber.{none-at}
 use Rattle.topology.proofs.tables.counts.is_monitor.Needs as need
 
 pub returns-in-None : need.returns-in-None

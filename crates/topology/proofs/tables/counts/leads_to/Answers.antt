@@ -3,11 +3,11 @@ use mathlib.Core.List.{List}
 use Prim.Native.Nat.{ℕ}
 use native.Mathlib.Omega.{arith}
 use Rattle.std.proofs.shelf.Tests.{false≢true}
-use Rattle.topology.specs.Points.{parentOf, Beneath, child, deeper}
-use Rattle.topology.specs.declared.classes.Point.{Point}
-use Rattle.topology.proofs.ByNumber.{none-at, some-at}
-use Rattle.topology.proofs.Depths.{parent-earlier}
-use Rattle.topology.proofs.Upwards.{by-parent, nothing-above}
+use Rattle.points.specs.Points.{parentOf, Beneath, child, deeper}
+use Rattle.points.specs.declared.classes.Point.{Point}
+use Rattle.points.proofs.ByNumber.{none-at, some-at}
+use Rattle.points.proofs.Depths.{parent-earlier}
+use Rattle.points.proofs.Upwards.{by-parent, nothing-above}
 use Rattle.topology.proofs.tables.counts.leads_to.Needs as need
 
 pub loop-q-again : need.loop-q-again

@@ -1,4 +1,4 @@
-use Rattle.topology.specs.Points.{Beneath}
+use Rattle.points.specs.Points.{Beneath}
 use Rattle.topology.proofs.tables.counts.leads_to.Given as given
 
 -- what lies beneath from here on up does so from the start, and the other way round

@@ -4,11 +4,11 @@ use mathlib.Core.List.{List}
 use Prim.Native.Nat.{_<_}
 use native.Mathlib.Omega.{arith}
 use lib.ListN.{length}
-use Rattle.topology.specs.Rules.{hasRoom, Limited, parentFits, Placed}
+use Rattle.points.specs.Rules.{hasRoom, Limited, parentFits, Placed}
 use Rattle.topology.specs.Tables.{listed}
-use Rattle.topology.specs.declared.classes.Point.{Point}
-use Rattle.topology.proofs.Depths.{fits-le}
-use Rattle.topology.proofs.Grows.{placed-grow, limited-grow}
+use Rattle.points.specs.declared.classes.Point.{Point}
+use Rattle.points.proofs.Depths.{fits-le}
+use Rattle.points.proofs.Grows.{placed-grow, limited-grow}
 use Rattle.topology.proofs.trees.Draft.enter.Needs as need
 
 pub has-room-requires : need.has-room-requires

@@ -1,5 +1,5 @@
 use mathlib.Core.Path.{refl, subst, sym, _∙_}
-use Rattle.topology.specs.Rules.{Complete, Limited, Placed}
+use Rattle.points.specs.Rules.{Complete, Limited, Placed}
 use Rattle.topology.specs.Service.{FirstUnready}
 use Rattle.topology.proofs.trees.Draft.put_into_service.Needs as need
 

@@ -5,14 +5,13 @@ use Prim.Native.Nat.{ℕ}
 use Rattle.std.specs.declared.option.Option.{Option}
 use Rattle.std.specs.declared.option.Option.the-variants.{Some, None}
 use Rattle.std.proofs.shelf.Tests.{cond-false, cond-true}
-use Rattle.topology.specs.Classes.{isMember}
-use Rattle.topology.specs.Points.{depth, DepthRule}
-use Rattle.topology.specs.Questions.{pointAt}
-use Rattle.topology.specs.Rules.{Placed}
+use Rattle.points.specs.Classes.{isMember}
+use Rattle.points.specs.Points.{depth, pointAt, DepthRule}
+use Rattle.points.specs.Rules.{Placed}
 use Rattle.topology.specs.Tables.{listed}
-use Rattle.topology.specs.declared.classes.Point.{Point}
-use Rattle.topology.proofs.ByNumber.{none-at, some-at}
-use Rattle.topology.proofs.Depths.{depth-step}
+use Rattle.points.specs.declared.classes.Point.{Point}
+use Rattle.points.proofs.ByNumber.{none-at, some-at}
+use Rattle.points.proofs.Depths.{depth-step}
 use Rattle.topology.proofs.trees.Tree.path_len.Needs as need
 
 -- the path of a point with this record

@@ -1,0 +1,4 @@
+pub mod ByNumber
+pub mod Depths
+pub mod Grows
+pub mod Upwards

@@ -1,0 +1,4 @@
+pub mod Drafted
+pub mod Shapes
+pub mod Text
+pub mod Turns
