@@ -1,0 +1,27 @@
+// Prints the tree that tree.txt in the working directory describes, or why it is refused.
+mod lists;
+
+use lists::tree_listing;
+use std::fs;
+use std::io;
+use std::io::ErrorKind;
+
+// What a file holds; a file that is missing counts as empty.
+fn read_or_empty(rt: &LibcRuntime, path: &str) -> io::Result<Vec<u8>> {
+    match fs::read(rt, path) {
+        Ok(bytes) => Ok(bytes),
+        Err(e) => {
+            if e.kind() == ErrorKind::NotFound {
+                Ok(Vec::new(rt.alloc()))
+            } else {
+                Err(e)
+            }
+        }
+    }
+}
+
+fn main(rt: LibcRuntime) -> io::Result<()> {
+    let text = read_or_empty(&rt, "tree.txt")?;
+    let listing = tree_listing(rt.alloc(), text.as_slice())?;
+    print!(rt, "{listing}")
+}
