@@ -2,7 +2,7 @@
 ghost use mathlib.Core.Path.{_≡_};
 ghost use Rattle.std.specs.Of.String.{string-bytes};
 ghost use Rattle.std.specs.Vec.{made};
-ghost use Rattle.hourlist.specs.Lists.{allLines, Listed};
+ghost use Rattle.hourlist.specs.Lists.{allLines, Listed, numberedLine};
 use points::Point;
 use points::PointDisplay;
 use std::alloc::AllocError;
@@ -11,14 +11,20 @@ use terms::RefusalDisplay;
 use topology::Tree;
 use treetext::read_tree;
 
-// A line for each point: its number, its class and its parent.
+// The number of a point, its class and its parent.
+fn point_line(heap: Global, number: usize, point: Point) -> Result<String, AllocError>
+    ensures { λ r. ⌜ made r (λ s. string-bytes s ≡ numberedLine number point) ⌝ }
+{
+    format!(heap, "{number} {point}\n")
+}
+
+// A line for each point.
 pub fn point_lines(heap: Global, points: &[Point]) -> Result<String, AllocError>
     ensures { λ r. ⌜ made r (λ s. string-bytes s ≡ allLines (now (points .entry))) ⌝ }
 {
     let mut text = String::new(heap);
     for (i, point) in points.iter().enumerate() {
-        let number = i + 1;
-        let line = format!(heap, "{number} {point}\n")?;
+        let line = point_line(heap, i + 1, *point)?;
         text.push_str(line.as_str())?;
     }
     Ok(text)

@@ -4,5 +4,9 @@ mod classes;
 
 pub use classes::Class;
 pub use classes::ClassDisplay;
+pub use classes::ClassEq;
+pub use classes::ClassPartialEq;
 pub use classes::Point;
 pub use classes::PointDisplay;
+pub use classes::PointEq;
+pub use classes::PointPartialEq;

@@ -3,3 +3,5 @@ mod refusals;
 
 pub use refusals::Refusal;
 pub use refusals::RefusalDisplay;
+pub use refusals::RefusalEq;
+pub use refusals::RefusalPartialEq;

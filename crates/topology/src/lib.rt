@@ -7,3 +7,6 @@ pub use numbers::Numbers;
 pub use numbers::NumbersIterator;
 pub use trees::Draft;
 pub use trees::Tree;
+
+#[cfg(test)]
+mod tests;

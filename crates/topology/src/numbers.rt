@@ -4,8 +4,8 @@ ghost use Prim.Native.Nat.{_+_, _-_};
 ghost use lib.ListN.{length};
 ghost use denote.Ref.{now};
 ghost use Rattle.topology.specs.Numbers.{Gives, numbersLeft, picks};
-use points::Point;
 use crate::tables::counts::point_at;
+use points::Point;
 
 // Which numbers: those of the members of a network, or those of the networks.
 #[derive(Clone, Copy)]

@@ -80,8 +80,12 @@ module _ (all : List Point) (placed : Placed all) (limited : Limited all) (k : �
   member-room : isMember (next .class) ≡ true → ltb (members front (next .parent)) 32 ≡ true
   member-room is =
       lt-ltb _ _
-      (omega (arith, limited .2 (next .parent), counted (λ q. isMember (q .class) && eqb (q .parent) (next .parent))
-      (and-from _ _ is (eq-eqb (next .parent) (next .parent) refl))))
+      (omega (
+        arith,
+        limited .2 (next .parent),
+        counted (λ q. isMember (q .class) && eqb (q .parent) (next .parent))
+            (and-from _ _ is (eq-eqb (next .parent) (next .parent) refl)),
+      ))
 
   room-by : (c : Class) → next .class ≡ c → hasRoom front c (next .parent) ≡ true
   room-by Root e =

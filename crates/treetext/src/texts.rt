@@ -1,11 +1,13 @@
 // Drafts and trees from a tree text.
 ghost use mathlib.Core.Path.{_≡_};
 ghost use mathlib.Core.List.{[]};
+ghost use lib.Dec.{ltb};
+ghost use lib.ListN.{length};
 ghost use Rattle.std.specs.Results.{Cases};
 ghost use Rattle.std.specs.Vec.{made};
 ghost use Rattle.topology.specs.Trees.{pointsIn, pointsOf};
 ghost use Rattle.treetext.specs.Drafted.{drafted};
-ghost use Rattle.treetext.specs.Text.{DraftRead, TreeRead};
+ghost use Rattle.treetext.specs.Text.{DraftRead, ServedAs, TreeRead};
 ghost use Rattle.treetext.specs.Turns.{LinesEntered};
 use crate::lines::Line;
 use crate::lines::read_line;
@@ -17,6 +19,13 @@ use topology::Tree;
 
 // The most bytes that a tree text may have.
 const TEXT_LIMIT: usize = 4096;
+
+// Whether the text has more bytes than a tree text may have.
+fn is_too_long(text: &[u8]) -> bool
+    ensures { λ r. ⌜ r ≡ ltb 4096 (length (now (text .entry))) ⌝ }
+{
+    text.len() > TEXT_LIMIT
+}
 
 // Enters a point for each line into a new draft, up to the first line that is refused.
 fn enter_lines(draft: &mut Draft, text: &[u8]) -> Result<(), Refusal>
@@ -47,7 +56,7 @@ fn enter_lines(draft: &mut Draft, text: &[u8]) -> Result<(), Refusal>
 pub fn read_draft(heap: Global, text: &[u8]) -> Result<Result<Draft, Refusal>, AllocError>
     ensures { λ r. ⌜ made r (λ d. DraftRead (now (text .entry)) (drafted d)) ⌝ }
 {
-    if text.len() > TEXT_LIMIT {
+    if is_too_long(text) {
         return Ok(Err(Refusal::BadText { line: 0 }));
     }
     let mut draft = Draft::new(heap)?;
@@ -57,13 +66,25 @@ pub fn read_draft(heap: Global, text: &[u8]) -> Result<Result<Draft, Refusal>, A
     Ok(Ok(draft))
 }
 
+// Puts the draft that was read into service, or hands the refusal on.
+fn serve(read: Result<Draft, Refusal>, tree: &mut Tree) -> Result<(), Refusal>
+    ensures { λ r. ⌜ ServedAs (drafted read) r (pointsOf (now (tree .entry))) (pointsOf (now (tree .exit))) ⌝ }
+{
+    match read {
+        Ok(draft) => draft.put_into_service(tree),
+        Err(refusal) => Err(refusal),
+    }
+}
+
 // Puts the tree that a text describes into service. A refusal, or want of memory for the draft,
 // leaves the tree as it was.
-pub fn read_tree(heap: Global, text: &[u8], tree: &mut Tree) -> Result<Result<(), Refusal>, AllocError>
+pub fn read_tree(
+    heap: Global,
+    text: &[u8],
+    tree: &mut Tree,
+) -> Result<Result<(), Refusal>, AllocError>
     ensures { λ r. ⌜ Cases r (λ a. TreeRead (now (text .entry)) a (pointsOf (now (tree .entry))) (pointsOf (now (tree .exit)))) (λ _. pointsOf (now (tree .exit)) ≡ pointsOf (now (tree .entry))) ⌝ }
 {
-    match read_draft(heap, text)? {
-        Ok(draft) => Ok(draft.put_into_service(tree)),
-        Err(refusal) => Ok(Err(refusal)),
-    }
+    let read = read_draft(heap, text)?;
+    Ok(serve(read, tree))
 }

@@ -8,14 +8,14 @@ ghost use Rattle.topology.specs.Entries.{Entered, judged};
 ghost use Rattle.points.specs.Rules.{hasRoom, Limited, parentFits, Placed};
 ghost use Rattle.topology.specs.Trees.{pointsIn};
 use super::Draft;
-use points::Class;
-use points::Point;
 use crate::tables::Table;
 use crate::tables::counts::count_members;
 use crate::tables::counts::count_networks;
 use crate::tables::counts::count_roots;
 use crate::tables::counts::depth_of;
 use crate::tables::counts::point_at;
+use points::Class;
+use points::Point;
 use std::alloc::AllocError;
 use std::alloc::Global;
 use terms::Refusal;
@@ -23,9 +23,13 @@ use terms::Refusal;
 // The limits of a tree: points, roots, members of one network, networks with the main one, and how
 // deep a network may lie, where the main one has depth 1.
 const POINT_LIMIT: usize = 128;
+
 const ROOT_LIMIT: usize = 4;
+
 const MEMBER_LIMIT: usize = 32;
+
 const NETWORK_LIMIT: usize = 16;
+
 const DEPTH_LIMIT: usize = 4;
 
 // Whether the next point may be of this class and name this parent.

@@ -7,14 +7,14 @@ ghost use Rattle.points.specs.Points.{DepthRule};
 ghost use Rattle.topology.specs.Questions.{BeneathMonitor, classAt, membersOf, networksOf, parentAt, pathLength};
 ghost use Rattle.topology.specs.Trees.{pointsOf};
 use super::Tree;
-use points::Class;
-use points::Point;
 use crate::numbers::Choice;
 use crate::numbers::Numbers;
 use crate::tables::counts::depth_of;
 use crate::tables::counts::is_monitor;
 use crate::tables::counts::leads_to;
 use crate::tables::counts::point_at;
+use points::Class;
+use points::Point;
 
 impl Tree {
     // The points, in the order of their numbers.

@@ -1,30 +1,38 @@
 // A draft goes into service.
 ghost use mathlib.Core.Path.{_≡_};
+ghost use lib.Dec.{eqb};
 ghost use Rattle.std.specs.Options.{Cases};
 ghost use Rattle.std.specs.Vec.{made};
+ghost use Rattle.points.specs.Points.{members};
 ghost use Rattle.points.specs.Rules.{Complete};
 ghost use Rattle.topology.specs.Service.{builtIn, FirstUnready, Serviced};
 ghost use Rattle.topology.specs.Trees.{pointsIn, pointsOf};
 use super::Draft;
 use super::Tree;
-use points::Class;
-use points::Point;
 use crate::tables::Table;
 use crate::tables::counts::count_members;
 use crate::tables::counts::count_roots;
+use points::Class;
+use points::Point;
 use std::alloc::AllocError;
 use std::alloc::Global;
 use terms::Refusal;
+
+fn is_memberless(points: &[Point], network: usize) -> bool
+    ensures { λ r. ⌜ r ≡ eqb (members (now (points .entry)) network) 0 ⌝ }
+{
+    count_members(points, network) == 0
+}
 
 // The first network that lacks a member, or the main one where there is no root.
 fn first_unready(points: &[Point]) -> Option<usize>
     ensures { λ r. ⌜ Cases r (Complete (now (points .entry))) (FirstUnready (now (points .entry))) ⌝ }
 {
-    if count_roots(points) == 0 || count_members(points, 0) == 0 {
+    if count_roots(points) == 0 || is_memberless(points, 0) {
         return Some(0);
     }
     for (i, q) in points.iter().enumerate() {
-        if q.class.is_monitor() && count_members(points, i + 1) == 0 {
+        if q.class.is_monitor() && is_memberless(points, i + 1) {
             return Some(i + 1);
         }
     }

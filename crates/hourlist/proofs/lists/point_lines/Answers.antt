@@ -1,6 +1,5 @@
-use borrow.Author.Needs.{needs}
 use mathlib.Core.Path.{_≡_, sym, ap, _∙_}
-use mathlib.Core.List.{List, _++_, append-assoc}
+use mathlib.Core.List.{List, _++_}
 use Prim.Native.Nat.{ℕ, _+_}
 use native.Mathlib.Numerals.{add-one}
 use lib.ListN.{getD}
@@ -20,5 +19,5 @@ loop-i-again c =
     let ps : List Point = c .args .points .now in
     let i : ℕ = c .loop-i .i in
     pushed (c .as-str .result .now) (c .loop-i .inv) (c .in-Continue-push-str .was tt) (c .push-str .ensures .bytes)
-    ∙ ap (λ (bs : List ℕ). linesTo ps i ++ bs) (c .as-str .ensures .value ∙ search (needs, append-assoc))
+    ∙ ap (λ (bs : List ℕ). linesTo ps i ++ bs) (c .as-str .ensures .value ∙ c .in-Continue-line .ensures tt)
     ∙ sym (lines-more ps i)
