@@ -19,7 +19,7 @@ fn point_line(heap: Global, number: usize, point: Point) -> Result<String, Alloc
 }
 
 // A line for each point.
-pub fn point_lines(heap: Global, points: &[Point]) -> Result<String, AllocError>
+fn point_lines(heap: Global, points: &[Point]) -> Result<String, AllocError>
     ensures { λ r. ⌜ made r (λ s. string-bytes s ≡ allLines (now (points .entry))) ⌝ }
 {
     let mut text = String::new(heap);

@@ -1,16 +1,15 @@
 -- Parents come earlier, so that the way up from any network ends at the main one.
-use mathlib.Core.Path.{_≡_, refl, sym, ap, subst, _∙_}
-use mathlib.Core.Bool.{true, false, cond}
+use mathlib.Core.Path.{_≡_, refl, sym, ap, subst}
+use mathlib.Core.Bool.{true}
 use mathlib.Core.Logic.{⊎-elim}
 use mathlib.Core.List.{List}
 use Prim.Native.Nat.{ℕ, zero, suc, _+_, _-_, _<_, _≤_}
 use native.Mathlib.Omega.{arith}
-use lib.Dec.{eqb}
 use lib.ListN.{length, getD}
 use Rattle.std.proofs.shelf.Lists.{getD-past}
 use Rattle.std.proofs.shelf.Tests.{cases-lt, eq-eqb, ne-eqb}
 use Rattle.std.proofs.shelf.Ways.{tells}
-use Rattle.points.specs.Points.{noPoint, point, parentOf, depthIn, depth}
+use Rattle.points.specs.Points.{noPoint, parentOf, depthIn, depth}
 use Rattle.points.specs.Rules.{parentFits, Placed}
 use Rattle.points.specs.declared.classes.Class.{Class}
 use Rattle.points.specs.declared.classes.Class.the-variants.{Root, Member, Monitor, Embedded}

@@ -6,11 +6,11 @@ use mathlib.Core.Logic.{⊎-elim}
 use mathlib.Core.List.{List, [], _∷_, _++_}
 use Prim.Native.Nat.{ℕ, zero, suc, _+_, _-_, _<_, _≤_}
 use native.Mathlib.Omega.{arith}
-use lib.Dec.{eqb, ltb, leb}
+use lib.Dec.{eqb, leb}
 use lib.ListN.{length, getD}
-use Rattle.std.proofs.shelf.Lists.{getD-past, getD-append-left, getD-push, length-append, length-push}
+use Rattle.std.proofs.shelf.Lists.{getD-append-left, getD-push, length-push}
 use Rattle.std.proofs.shelf.Sums.{sumBy-push}
-use Rattle.std.proofs.shelf.Tests.{cases-lt, cases-bool, eq-eqb, ne-eqb, and-parts, eqb-true, leb-true, ltb-true, false≢true}
+use Rattle.std.proofs.shelf.Tests.{cases-lt, cases-bool, eq-eqb, and-parts, eqb-true, leb-true, ltb-true, false≢true}
 use Rattle.std.specs.shelf.Lists.{countBy}
 use Rattle.points.specs.Classes.{isRoot, isMember, isMonitor, hosts}
 use Rattle.points.specs.Points.{noPoint, point, classOf, parentOf, roots, members, networks, depthIn, depth}

@@ -1,15 +1,15 @@
 -- Whether every network is ready, from a pass over the points.
 use mathlib.Core.Path.{_≡_, refl, sym, ap, _∙_}
-use mathlib.Core.Bool.{true, false}
+use mathlib.Core.Bool.{true}
 use mathlib.Core.Logic.{⊎-elim, inl, inr}
 use mathlib.Core.List.{List}
-use Prim.Native.Nat.{ℕ, _+_, _<_, _≤_}
+use Prim.Native.Nat.{ℕ, _+_, _≤_}
 use native.Mathlib.Omega.{arith}
 use lib.Dec.{eqb}
 use lib.ListN.{length, getD}
 use Rattle.std.proofs.shelf.Tests.{cases-lt, eqb-true, false≢true, or-cases}
 use Rattle.points.specs.Classes.{isMonitor}
-use Rattle.points.specs.Points.{noPoint, point, isNetwork, members, roots}
+use Rattle.points.specs.Points.{noPoint, point, members, roots}
 use Rattle.points.specs.Rules.{Complete}
 use Rattle.topology.specs.Service.{Unready}
 use Rattle.points.specs.declared.classes.Point.{Point}

@@ -8,7 +8,7 @@ use Rattle.std.specs.Options.{mapped}
 use Rattle.std.specs.declared.option.Option.{Option}
 use Rattle.std.specs.declared.option.Option.the-variants.{Some, None}
 use Rattle.points.specs.Classes.{isMember, isMonitor}
-use Rattle.points.specs.Points.{classOf, parentOf, pointAt, joins, isNetwork, depth, Beneath}
+use Rattle.points.specs.Points.{point, classOf, pointAt, joins, isNetwork, depth, Beneath}
 use Rattle.points.specs.declared.classes.Class.{Class}
 use Rattle.points.specs.declared.classes.Point.{Point}
 
@@ -34,8 +34,11 @@ networksOf ps = picked (isNetwork ps) 0 (length ps + 1)
 
 -- A member's path is the network that it joins and those above, up to the main one: as many networks
 -- as the network that it joins is deep.
+abbrev pub pathBy : List Point → Point → Option ℕ
+pathBy ps q = cond (isMember (q .class)) (Some (depth ps (q .parent))) None
+
 abbrev pub pathLength : List Point → ℕ → Option ℕ
-pathLength ps p = cond (isMember (classOf ps p)) (Some (depth ps (parentOf ps p))) None
+pathLength ps p = pathBy ps (point ps p)
 
 -- p is beneath the monitor m
 abbrev pub BeneathMonitor : List Point → ℕ → ℕ → Type 0

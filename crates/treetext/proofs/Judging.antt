@@ -2,14 +2,14 @@
 use mathlib.Core.Path.{_≡_, refl, sym, ap, _∙_}
 use mathlib.Core.Bool.{Bool, true, false, cond}
 use mathlib.Core.List.{List}
-use Prim.Native.Nat.{ℕ, _<_, _≤_}
+use Prim.Native.Nat.{ℕ, _<_}
 use native.Mathlib.Omega.{arith}
 use lib.Dec.{eqb, ltb}
 use lib.ListN.{length}
 use Rattle.std.specs.declared.option.Option.{Option}
 use Rattle.std.specs.declared.option.Option.the-variants.{Some, None}
 use Rattle.std.proofs.shelf.Tests.{eqb-true, ltb-true}
-use Rattle.terms.specs.Answers.{Answer, gives, refuses, tested}
+use Rattle.terms.specs.Answers.{Answer, gives, tested}
 use Rattle.points.specs.Classes.{classBy, letterOf}
 use Rattle.topology.specs.Entries.{judged, judgedAs, place}
 use Rattle.points.specs.Rules.{parentFits, hasRoom}

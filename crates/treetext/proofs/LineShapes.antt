@@ -2,7 +2,7 @@
 use mathlib.Core.Path.{_≡_, refl, sym, ap, subst, _∙_}
 use mathlib.Core.Bool.{Bool, true, false, cond}
 use mathlib.Core.List.{List, [], _∷_, _++_, append-assoc}
-use Prim.Native.Nat.{ℕ, zero, suc, _+_, _-_, _^_, _<_, _≤_}
+use Prim.Native.Nat.{ℕ, _+_, _-_, _^_, _<_, _≤_}
 use native.Mathlib.Numerals.{one-add}
 use native.Mathlib.Nat.{add-comm, pow-le-pow-right}
 use native.Mathlib.Omega.{arith}
@@ -16,7 +16,7 @@ use Rattle.std.proofs.shelf.Decimals.{decimal-reads, decimal-some, decimal-valu
 use Rattle.std.proofs.shelf.Digits.{value-lt}
 use Rattle.std.proofs.shelf.Lists.{drop-more, drop-drop, length-drop, take-append-drop, length-append, length-take-le, getD-at, getD-append-left, getD-past, getD-take}
 use Rattle.std.proofs.shelf.Numerals.{digit-from-value, numerals-by-value, tells-digits}
-use Rattle.std.proofs.shelf.Tests.{cases-bool, cases-lt, and-from, le-leb}
+use Rattle.std.proofs.shelf.Tests.{cases-lt, and-from, le-leb}
 use Rattle.std.proofs.shelf.Ways.{tells}
 use Rattle.treetext.specs.Shapes.{digitsAhead, parentField, shaped, Opens, OpensParent}
 

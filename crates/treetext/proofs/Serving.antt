@@ -1,5 +1,5 @@
 -- The tree that a text gives.
-use mathlib.Core.Path.{_≡_, refl, sym, ap, subst, _∙_}
+use mathlib.Core.Path.{_≡_, refl, sym, subst}
 use mathlib.Core.List.{List, [], _∷_}
 use Prim.Native.Nat.{ℕ, _<_, _≤_}
 use native.Mathlib.Omega.{arith}
@@ -10,10 +10,10 @@ use Rattle.std.specs.declared.result.Result.the-variants.{Ok, Err}
 use Rattle.terms.specs.Answers.{Answer, gives, refuses}
 use Rattle.terms.specs.Refusals.{firstOf, placeOf}
 use Rattle.terms.specs.declared.refusals.Refusal.{Refusal}
-use Rattle.points.specs.Rules.{Complete, Limited, Placed}
+use Rattle.points.specs.Rules.{Complete}
 use Rattle.points.specs.declared.classes.Point.{Point}
 use Rattle.topology.specs.Service.{Serviced, Unready}
-use Rattle.treetext.specs.Text.{DraftRead, LinesRead, ServedAs, TextRead, TreeRead, written}
+use Rattle.treetext.specs.Text.{DraftRead, LinesRead, ServedAs, TextRead, TreeRead}
 use Rattle.treetext.proofs.Once.{reads-once}
 use Rattle.treetext.proofs.Writing.{reads-back}
 

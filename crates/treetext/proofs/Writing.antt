@@ -1,7 +1,6 @@
 -- The written text of points that a draft may hold reads back as just these points.
 use mathlib.Core.Path.{_≡_, refl, sym, ap, subst, _∙_}
 use mathlib.Core.Bool.{Bool, true, cond, _&&_}
-use mathlib.Core.Logic.{⊎-elim}
 use mathlib.Core.List.{List, [], _∷_, _++_}
 use Prim.Native.Nat.{ℕ, _+_, _*_, _<_, _≤_}
 use native.Mathlib.Omega.{arith}
@@ -10,15 +9,14 @@ use lib.ListN.{length, getD, take, drop}
 use Rattle.std.specs.Written.{decimal}
 use Rattle.std.specs.shelf.Lists.{countBy}
 use Rattle.std.specs.declared.option.Option.{Option}
-use Rattle.std.specs.declared.option.Option.the-variants.{Some}
 use Rattle.std.proofs.shelf.Decimals.{length-decimal-le}
 use Rattle.std.proofs.shelf.Lists.{getD-append-left, length-append, length-take-le, take-append-drop}
 use Rattle.std.proofs.shelf.Sums.{countBy-more-yes, sumBy-take-le}
 use Rattle.std.proofs.shelf.Tests.{and-from, eq-eqb, lt-ltb}
-use Rattle.terms.specs.Answers.{Answer, gives, refuses}
-use Rattle.points.specs.Classes.{classBy, isMember, isMonitor, isRoot, letterOf}
+use Rattle.terms.specs.Answers.{gives, refuses}
+use Rattle.points.specs.Classes.{isMember, isMonitor, isRoot}
 use Rattle.topology.specs.Entries.{judgedAs, place}
-use Rattle.points.specs.Points.{noPoint, point, parentOf, depth, members, networks, roots}
+use Rattle.points.specs.Points.{noPoint, depth, members}
 use Rattle.points.specs.Rules.{hasRoom, parentFits, Placed, Limited}
 use Rattle.treetext.specs.Text.{Enter, Passes, TextRead, pointLine, written}
 use Rattle.points.specs.declared.classes.Class.{Class}

@@ -1,4 +1,3 @@
 pub mod Drafted
 pub mod Shapes
 pub mod Text
-pub mod Turns

@@ -6,7 +6,7 @@ use Prim.Native.Nat.{ℕ, _+_, _<_, _≤_}
 use lib.ListN.{length, getD, take}
 use Rattle.std.specs.shelf.Lists.{joined}
 use Rattle.std.specs.declared.result.Result.{Result}
-use Rattle.std.specs.declared.result.Result.the-variants.{Ok, Err}
+use Rattle.std.specs.declared.result.Result.the-variants.{Ok}
 use Rattle.terms.specs.Answers.{Answer, gives, refuses, answered}
 use Rattle.terms.specs.declared.refusals.Refusal.{Refusal}
 use Rattle.points.specs.Classes.{letterOf, spelled}

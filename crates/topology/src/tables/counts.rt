@@ -6,6 +6,7 @@ ghost use Rattle.std.specs.Orderings.{Decides};
 ghost use Rattle.points.specs.Classes.{isMonitor};
 ghost use Rattle.points.specs.Points.{Beneath, classOf, depth, members, networks, pointAt, roots};
 ghost use Rattle.points.specs.Rules.{Placed};
+ghost use Rattle.topology.specs.Questions.{pathBy};
 use points::Point;
 
 // Point p, if there is one.
@@ -80,6 +81,20 @@ pub fn depth_of(points: &[Point], network: usize) -> usize
         steps += 1;
     }
     steps
+}
+
+// How many networks the path of a point has, if it is a member.
+pub fn path_of(points: &[Point], q: Point) -> Option<usize>
+    requires placed { ⌜ Placed (now points) ⌝ }
+    requires few { ⌜ length (now points) ≤ 128 ⌝ }
+    requires within { ⌜ q .parent ≤ length (now points) ⌝ }
+    ensures { λ r. ⌜ r ≡ pathBy (now (points .entry)) q ⌝ }
+{
+    if q.class.is_member() {
+        Some(depth_of(points, q.parent))
+    } else {
+        None
+    }
 }
 
 // Whether the parents of a point, one above the other, come to the point `above`.

@@ -84,7 +84,7 @@ impl Draft {
     pub fn enter(&mut self, letter: char, parent: usize) -> Result<usize, Refusal>
         ensures { λ r. ⌜ Entered (pointsIn (now (self .entry))) (judged (pointsIn (now (self .entry))) letter parent) r (pointsIn (now (self .exit))) ⌝ }
     {
-        let points = self.table.points();
+        let points = self.points();
         let point = points.len() + 1;
         let Some(class) = Class::of_letter(letter) else {
             return Err(Refusal::UnknownClass { point });

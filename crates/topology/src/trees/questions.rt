@@ -9,9 +9,9 @@ ghost use Rattle.topology.specs.Trees.{pointsOf};
 use super::Tree;
 use crate::numbers::Choice;
 use crate::numbers::Numbers;
-use crate::tables::counts::depth_of;
 use crate::tables::counts::is_monitor;
 use crate::tables::counts::leads_to;
+use crate::tables::counts::path_of;
 use crate::tables::counts::point_at;
 use points::Class;
 use points::Point;
@@ -74,10 +74,7 @@ impl Tree {
         ensures rule { λ r. ⌜ DepthRule (pointsOf (now (self .entry))) ⌝ }
     {
         let q = point_at(self.points(), member)?;
-        if !q.class.is_member() {
-            return None;
-        }
-        Some(depth_of(self.points(), q.parent))
+        path_of(self.points(), q)
     }
 
     // Whether following parents from the point leads to the monitor.

@@ -40,20 +40,34 @@ fn first_unready(points: &[Point]) -> Option<usize>
 }
 
 impl Draft {
+    // The first network that is not ready for service.
+    fn unready(&self) -> Option<usize>
+        ensures { λ r. ⌜ Cases r (Complete (pointsIn (now (self .entry)))) (FirstUnready (pointsIn (now (self .entry)))) ⌝ }
+    {
+        first_unready(self.points())
+    }
+
     // Fills the tree with the points of the draft. A refusal leaves the tree as it was.
     pub fn put_into_service(&self, tree: &mut Tree) -> Result<(), Refusal>
         ensures { λ r. ⌜ Serviced (pointsIn (now (self .entry))) r (pointsOf (now (tree .entry))) (pointsOf (now (tree .exit))) ⌝ }
     {
-        let points = self.table.points();
-        if let Some(network) = first_unready(points) {
+        if let Some(network) = self.unready() {
             return Err(Refusal::NotReady { network });
         }
-        tree.table.refill(points);
+        tree.fill(self);
         Ok(())
     }
 }
 
 impl Tree {
+    // Takes the points of the draft in place of its own.
+    fn fill(&mut self, draft: &Draft)
+        requires { ⌜ Complete (pointsIn (now draft)) ⌝ }
+        ensures { λ _. ⌜ pointsOf (now (self .exit)) ≡ pointsIn (now (draft .entry)) ⌝ }
+    {
+        self.table.refill(draft.points());
+    }
+
     // The tree before any draft has gone into service: a root and one member.
     pub fn built_in(heap: Global) -> Result<Tree, AllocError>
         ensures { λ r. ⌜ made r (λ t. pointsOf t ≡ builtIn) ⌝ }

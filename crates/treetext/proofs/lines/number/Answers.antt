@@ -1,11 +1,10 @@
-use mathlib.Core.Path.{_≡_, ap}
-use Prim.Native.Nat.{_+_, _*_, _^_, _≤_}
+use mathlib.Core.Path.{ap}
+use Prim.Native.Nat.{_^_, _≤_}
 use native.Mathlib.Nat.{pow-le-pow-right}
 use native.Mathlib.Omega.{arith}
-use lib.ListN.{length, getD}
+use lib.ListN.{getD}
 use lib.Pow.{pow-add}
 use Rattle.std.specs.Reads.{value}
-use Rattle.std.specs.Text.{digitValue, In}
 use Rattle.std.proofs.shelf.Digits.{value-more}
 use Rattle.std.proofs.shelf.Lists.{take-all}
 use Rattle.std.proofs.shelf.Numerals.{digit-at}

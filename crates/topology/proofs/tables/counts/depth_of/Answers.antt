@@ -1,4 +1,4 @@
-use mathlib.Core.Path.{_≡_, ap}
+use mathlib.Core.Path.{ap}
 use native.Mathlib.Omega.{arith}
 use Rattle.points.specs.Points.{depth}
 use Rattle.points.proofs.Depths.{parent-earlier, depth-step}
