@@ -9,7 +9,7 @@ use points::Point;
 
 // Which numbers: those of the members of a network, or those of the networks.
 #[derive(Clone, Copy)]
-pub enum Choice {
+pub(crate) enum Choice {
     MembersOf(usize),
     Networks,
 }

@@ -12,7 +12,7 @@ const DIGIT_LIMIT: usize = 3;
 
 // A line that was read, and how many bytes it took.
 #[derive(Clone, Copy)]
-pub struct Line {
+pub(crate) struct Line {
     pub letter: u8,
     pub parent: usize,
     pub len: usize,
@@ -68,7 +68,7 @@ fn read_parent(text: &[u8]) -> Option<(usize, usize)>
 }
 
 // The line that the text begins with: one byte for the class, a space, and the parent.
-pub fn read_line(text: &[u8]) -> Option<Line>
+pub(crate) fn read_line(text: &[u8]) -> Option<Line>
     ensures { λ r. ⌜ Cases r (Shapeless (now (text .entry))) (λ l. Opens (now (text .entry)) (l .letter) (l .parent) (l .len)) ⌝ }
 {
     let [letter, b' ', rest @ ..] = text else {

@@ -10,7 +10,7 @@ ghost use Rattle.topology.specs.Questions.{pathBy};
 use points::Point;
 
 // Point p, if there is one.
-pub fn point_at(points: &[Point], p: usize) -> Option<Point>
+pub(crate) fn point_at(points: &[Point], p: usize) -> Option<Point>
     ensures { λ r. ⌜ r ≡ pointAt (now (points .entry)) p ⌝ }
 {
     if p == 0 || p > points.len() {
@@ -20,7 +20,7 @@ pub fn point_at(points: &[Point], p: usize) -> Option<Point>
 }
 
 // Whether point p monitors a network.
-pub fn is_monitor(points: &[Point], p: usize) -> bool
+pub(crate) fn is_monitor(points: &[Point], p: usize) -> bool
     ensures { λ r. ⌜ r ≡ isMonitor (classOf (now (points .entry)) p) ⌝ }
 {
     match point_at(points, p) {
@@ -29,7 +29,7 @@ pub fn is_monitor(points: &[Point], p: usize) -> bool
     }
 }
 
-pub fn count_roots(points: &[Point]) -> usize
+pub(crate) fn count_roots(points: &[Point]) -> usize
     ensures { λ r. ⌜ r ≡ roots (now (points .entry)) ⌝ }
 {
     let mut n = 0;
@@ -41,7 +41,7 @@ pub fn count_roots(points: &[Point]) -> usize
     n
 }
 
-pub fn count_members(points: &[Point], network: usize) -> usize
+pub(crate) fn count_members(points: &[Point], network: usize) -> usize
     ensures { λ r. ⌜ r ≡ members (now (points .entry)) network ⌝ }
 {
     let mut n = 0;
@@ -54,7 +54,7 @@ pub fn count_members(points: &[Point], network: usize) -> usize
 }
 
 // The networks, with the main one.
-pub fn count_networks(points: &[Point]) -> usize
+pub(crate) fn count_networks(points: &[Point]) -> usize
     requires { ⌜ length (now points) ≤ 128 ⌝ }
     ensures { λ r. ⌜ r ≡ networks (now (points .entry)) ⌝ }
 {
@@ -68,7 +68,7 @@ pub fn count_networks(points: &[Point]) -> usize
 }
 
 // The depth of a network, counted on the way up to the main one.
-pub fn depth_of(points: &[Point], network: usize) -> usize
+pub(crate) fn depth_of(points: &[Point], network: usize) -> usize
     requires placed { ⌜ Placed (now points) ⌝ }
     requires few { ⌜ length (now points) ≤ 128 ⌝ }
     requires within { ⌜ network ≤ length (now points) ⌝ }
@@ -84,7 +84,7 @@ pub fn depth_of(points: &[Point], network: usize) -> usize
 }
 
 // How many networks the path of a point has, if it is a member.
-pub fn path_of(points: &[Point], q: Point) -> Option<usize>
+pub(crate) fn path_of(points: &[Point], q: Point) -> Option<usize>
     requires placed { ⌜ Placed (now points) ⌝ }
     requires few { ⌜ length (now points) ≤ 128 ⌝ }
     requires within { ⌜ q .parent ≤ length (now points) ⌝ }
@@ -98,7 +98,7 @@ pub fn path_of(points: &[Point], q: Point) -> Option<usize>
 }
 
 // Whether the parents of a point, one above the other, come to the point `above`.
-pub fn leads_to(points: &[Point], point: usize, above: usize) -> bool
+pub(crate) fn leads_to(points: &[Point], point: usize, above: usize) -> bool
     requires placed { ⌜ Placed (now points) ⌝ }
     requires some { ⌜ 0 < above ⌝ }
     ensures { λ r. ⌜ Decides r (Beneath (now (points .entry)) above point) ⌝ }

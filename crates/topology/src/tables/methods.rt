@@ -11,21 +11,21 @@ use std::alloc::AllocError;
 use std::alloc::Global;
 
 impl Table {
-    pub fn new(heap: Global) -> Result<Table, AllocError>
+    pub(crate) fn new(heap: Global) -> Result<Table, AllocError>
         ensures { λ r. ⌜ made r (λ t. listed t ≡ []) ⌝ }
     {
         let records = Vec::with_capacity(heap, 128)?;
         Ok(Table { records })
     }
 
-    pub fn points(&self) -> &[Point]
+    pub(crate) fn points(&self) -> &[Point]
         ensures { λ r. ⌜ now r ≡ listed (now (self .entry)) ⌝ }
     {
         self.records.as_slice()
     }
 
     // One point more, where there is room.
-    pub fn push(&mut self, point: Point)
+    pub(crate) fn push(&mut self, point: Point)
         requires { ⌜ length (listed (now self)) < 128 ⌝ }
         ensures { λ _. ⌜ listed (now (self .exit)) ≡ listed (now (self .entry)) ++ point ∷ [] ⌝ }
     {
@@ -33,7 +33,7 @@ impl Table {
     }
 
     // Takes these points in place of its own.
-    pub fn refill(&mut self, points: &[Point])
+    pub(crate) fn refill(&mut self, points: &[Point])
         requires { ⌜ length (now points) ≤ 128 ⌝ }
         ensures { λ _. ⌜ listed (now (self .exit)) ≡ now (points .entry) ⌝ }
     {
