@@ -13,7 +13,7 @@ use Rattle.std.proofs.shelf.Sums.{sumBy-push}
 use Rattle.std.proofs.shelf.Tests.{cases-lt, cases-bool, eq-eqb, and-parts, eqb-true, leb-true, ltb-true, false≢true}
 use Rattle.std.specs.shelf.Lists.{countBy}
 use Rattle.points.specs.Classes.{isRoot, isMember, isMonitor, hosts}
-use Rattle.points.specs.Points.{noPoint, point, classOf, parentOf, roots, members, networks, depthIn, depth}
+use Rattle.points.specs.Points.{memberOf, noPoint, point, classOf, parentOf, roots, members, networks, depthIn, depth}
 use Rattle.points.specs.Rules.{parentFits, hasRoom, Placed, Limited, Shallow}
 use Rattle.points.specs.declared.classes.Class.{Class}
 use Rattle.points.specs.declared.classes.Class.the-variants.{Root, Member, Monitor, Embedded}
@@ -135,7 +135,7 @@ module _ (ps : List Point) (q : Point) (placed : Placed ps) (fits : parentFits p
     limited-grow limited small = (
       omega (arith, length-push ps q),
       count-grow (λ x. isRoot (x .class)) ps q 4 (limited .1) (room-root ps (q .class) (q .parent) room),
-      (λ m. count-grow (λ x. isMember (x .class) && eqb (x .parent) m) ps q 32 (limited .2 m)
+      (λ m. count-grow (memberOf m) ps q 32 (limited .2 m)
           (λ e.
           let b = and-parts (isMember (q .class)) (eqb (q .parent) m) e in
           let same : q .parent ≡ m = eqb-true _ _ (b .1) in

@@ -37,9 +37,13 @@ pointAt ps p = cond (ltb 0 p && leb p (length ps)) (Some (point ps p)) None
 abbrev pub IsPoint : List Point → ℕ → Type 0
 IsPoint ps p = (0 < p) × (p ≤ length ps)
 
+-- the point is a member of network m
+abbrev pub memberOf : ℕ → Point → Bool
+memberOf m q = isMember (q .class) && eqb (q .parent) m
+
 -- p is a member of network m
 abbrev pub joins : List Point → ℕ → ℕ → Bool
-joins ps m p = isMember (classOf ps p) && eqb (parentOf ps p) m
+joins ps m p = memberOf m (point ps p)
 
 -- m is a network
 abbrev pub isNetwork : List Point → ℕ → Bool
@@ -51,7 +55,7 @@ roots ps = countBy (λ q. isRoot (q .class)) ps
 
 -- how many members network m has
 abbrev pub members : List Point → ℕ → ℕ
-members ps m = countBy (λ q. isMember (q .class) && eqb (q .parent) m) ps
+members ps m = countBy (memberOf m) ps
 
 -- how many networks there are, with the main one
 abbrev pub networks : List Point → ℕ

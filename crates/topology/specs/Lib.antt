@@ -1,4 +1,5 @@
 pub mod Entries
+pub mod Kinds
 pub mod Numbers
 pub mod Questions
 pub mod Service

@@ -4,6 +4,7 @@ ghost use Prim.Native.Nat.{_+_, _-_};
 ghost use lib.ListN.{length};
 ghost use denote.Ref.{now};
 ghost use Rattle.topology.specs.Numbers.{Gives, numbersLeft, picks};
+use crate::tables::counts::Kind;
 use crate::tables::counts::point_at;
 use points::Point;
 
@@ -27,9 +28,9 @@ impl Choice {
         ensures { λ r. ⌜ r ≡ picks (now (points .entry)) self p ⌝ }
     {
         match (self, point_at(points, p)) {
-            (Choice::MembersOf(network), Some(q)) => q.class.is_member() && q.parent == network,
+            (Choice::MembersOf(network), Some(q)) => Kind::MemberOf(network).has(q),
             (Choice::MembersOf(_), None) => false,
-            (Choice::Networks, Some(q)) => q.class.is_monitor(),
+            (Choice::Networks, Some(q)) => Kind::Monitor.has(q),
             (Choice::Networks, None) => p == 0,
         }
     }

@@ -1,10 +1,10 @@
 -- The written text of points that a draft may hold reads back as just these points.
 use mathlib.Core.Path.{_≡_, refl, sym, ap, subst, _∙_}
-use mathlib.Core.Bool.{Bool, true, cond, _&&_}
+use mathlib.Core.Bool.{Bool, true, cond}
 use mathlib.Core.List.{List, [], _∷_, _++_}
 use Prim.Native.Nat.{ℕ, _+_, _*_, _<_, _≤_}
 use native.Mathlib.Omega.{arith}
-use lib.Dec.{eqb, ltb}
+use lib.Dec.{ltb}
 use lib.ListN.{length, getD, take, drop}
 use Rattle.std.specs.Written.{decimal}
 use Rattle.std.specs.shelf.Lists.{countBy}
@@ -16,7 +16,7 @@ use Rattle.std.proofs.shelf.Tests.{and-from, eq-eqb, lt-ltb}
 use Rattle.terms.specs.Answers.{gives, refuses}
 use Rattle.points.specs.Classes.{isMember, isMonitor, isRoot}
 use Rattle.topology.specs.Entries.{judgedAs, place}
-use Rattle.points.specs.Points.{noPoint, depth, members}
+use Rattle.points.specs.Points.{noPoint, depth, memberOf, members}
 use Rattle.points.specs.Rules.{hasRoom, parentFits, Placed, Limited}
 use Rattle.treetext.specs.Text.{Enter, Passes, TextRead, pointLine, written}
 use Rattle.points.specs.declared.classes.Class.{Class}
@@ -81,7 +81,7 @@ module _ (all : List Point) (placed : Placed all) (limited : Limited all) (k : �
       (omega (
         arith,
         limited .2 (next .parent),
-        counted (λ q. isMember (q .class) && eqb (q .parent) (next .parent))
+        counted (memberOf (next .parent))
             (and-from _ _ is (eq-eqb (next .parent) (next .parent) refl)),
       ))
 

@@ -3,9 +3,11 @@ ghost use mathlib.Core.Path.{_≡_};
 ghost use Prim.Native.Nat.{_<_, _≤_};
 ghost use lib.ListN.{length};
 ghost use Rattle.std.specs.Orderings.{Decides};
+ghost use Rattle.std.specs.shelf.Lists.{countBy};
 ghost use Rattle.points.specs.Classes.{isMonitor};
-ghost use Rattle.points.specs.Points.{Beneath, classOf, depth, members, networks, pointAt, roots};
+ghost use Rattle.points.specs.Points.{Beneath, classOf, depth, pointAt};
 ghost use Rattle.points.specs.Rules.{Placed};
+ghost use Rattle.topology.specs.Kinds.{ofKind};
 ghost use Rattle.topology.specs.Questions.{pathBy};
 use points::Point;
 
@@ -29,38 +31,33 @@ pub(crate) fn is_monitor(points: &[Point], p: usize) -> bool
     }
 }
 
-pub(crate) fn count_roots(points: &[Point]) -> usize
-    ensures { λ r. ⌜ r ≡ roots (now (points .entry)) ⌝ }
+// What the limits count: roots, the members of a network, or monitors.
+#[derive(Clone, Copy)]
+pub(crate) enum Kind {
+    Root,
+    MemberOf(usize),
+    Monitor,
+}
+
+impl Kind {
+    pub(crate) fn has(self, q: Point) -> bool
+        ensures { λ r. ⌜ r ≡ ofKind self q ⌝ }
+    {
+        match self {
+            Kind::Root => q.class.is_root(),
+            Kind::MemberOf(network) => q.class.is_member() && q.parent == network,
+            Kind::Monitor => q.class.is_monitor(),
+        }
+    }
+}
+
+pub(crate) fn count(points: &[Point], kind: Kind) -> usize
+    ensures value { λ r. ⌜ r ≡ countBy (ofKind kind) (now (points .entry)) ⌝ }
+    ensures bound { λ r. ⌜ r ≤ length (now (points .entry)) ⌝ }
 {
     let mut n = 0;
     for q in points {
-        if q.class.is_root() {
-            n += 1;
-        }
-    }
-    n
-}
-
-pub(crate) fn count_members(points: &[Point], network: usize) -> usize
-    ensures { λ r. ⌜ r ≡ members (now (points .entry)) network ⌝ }
-{
-    let mut n = 0;
-    for q in points {
-        if q.class.is_member() && q.parent == network {
-            n += 1;
-        }
-    }
-    n
-}
-
-// The networks, with the main one.
-pub(crate) fn count_networks(points: &[Point]) -> usize
-    requires { ⌜ length (now points) ≤ 128 ⌝ }
-    ensures { λ r. ⌜ r ≡ networks (now (points .entry)) ⌝ }
-{
-    let mut n = 1;
-    for q in points {
-        if q.class.is_monitor() {
+        if kind.has(*q) {
             n += 1;
         }
     }

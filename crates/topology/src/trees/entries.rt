@@ -9,9 +9,8 @@ ghost use Rattle.points.specs.Rules.{hasRoom, Limited, parentFits, Placed};
 ghost use Rattle.topology.specs.Trees.{pointsIn};
 use super::Draft;
 use crate::tables::Table;
-use crate::tables::counts::count_members;
-use crate::tables::counts::count_networks;
-use crate::tables::counts::count_roots;
+use crate::tables::counts::Kind;
+use crate::tables::counts::count;
 use crate::tables::counts::depth_of;
 use crate::tables::counts::point_at;
 use points::Class;
@@ -53,11 +52,11 @@ fn has_room(points: &[Point], class: Class, parent: usize) -> bool
     ensures { λ r. ⌜ r ≡ hasRoom (now (points .entry)) class parent ⌝ }
 {
     match class {
-        Class::Root => count_roots(points) < ROOT_LIMIT,
-        Class::Member => count_members(points, parent) < MEMBER_LIMIT,
+        Class::Root => count(points, Kind::Root) < ROOT_LIMIT,
+        Class::Member => count(points, Kind::MemberOf(parent)) < MEMBER_LIMIT,
         Class::Monitor => {
-            count_members(points, parent) < MEMBER_LIMIT
-                && count_networks(points) < NETWORK_LIMIT
+            count(points, Kind::MemberOf(parent)) < MEMBER_LIMIT
+                && 1 + count(points, Kind::Monitor) < NETWORK_LIMIT
                 && depth_of(points, parent) < DEPTH_LIMIT
         }
         Class::Embedded => true,

@@ -10,8 +10,8 @@ ghost use Rattle.topology.specs.Trees.{pointsIn, pointsOf};
 use super::Draft;
 use super::Tree;
 use crate::tables::Table;
-use crate::tables::counts::count_members;
-use crate::tables::counts::count_roots;
+use crate::tables::counts::Kind;
+use crate::tables::counts::count;
 use points::Class;
 use points::Point;
 use std::alloc::AllocError;
@@ -21,14 +21,14 @@ use terms::Refusal;
 fn is_memberless(points: &[Point], network: usize) -> bool
     ensures { λ r. ⌜ r ≡ eqb (members (now (points .entry)) network) 0 ⌝ }
 {
-    count_members(points, network) == 0
+    count(points, Kind::MemberOf(network)) == 0
 }
 
 // The first network that lacks a member, or the main one where there is no root.
 fn first_unready(points: &[Point]) -> Option<usize>
     ensures { λ r. ⌜ Cases r (Complete (now (points .entry))) (FirstUnready (now (points .entry))) ⌝ }
 {
-    if count_roots(points) == 0 || is_memberless(points, 0) {
+    if count(points, Kind::Root) == 0 || is_memberless(points, 0) {
         return Some(0);
     }
     for (i, q) in points.iter().enumerate() {
