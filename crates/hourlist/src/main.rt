@@ -25,3 +25,14 @@ fn main(rt: LibcRuntime) -> io::Result<()> {
     let listing = tree_listing(rt.alloc(), text.as_slice())?;
     print!(rt, "{listing}")
 }
+
+#[cfg(test)]
+mod tests {
+    use super::read_or_empty;
+    use std::test::*;
+
+    #[test]
+    fn a_missing_file_counts_as_empty(rt: LibcRuntime) -> Result<(), Fail> {
+        check(read_or_empty(&rt, "there is no such file")?.is_empty())
+    }
+}

@@ -1,10 +1,10 @@
 // Drafts and trees from a tree text.
 ghost use mathlib.Core.Path.{_≡_};
 ghost use mathlib.Core.List.{[]};
+ghost use Prim.Native.Nat.{_≤_};
 ghost use lib.Dec.{ltb};
 ghost use lib.ListN.{length};
 ghost use Rattle.std.specs.Results.{Cases};
-ghost use Rattle.std.specs.Vec.{made};
 ghost use Rattle.topology.specs.Trees.{pointsIn, pointsOf};
 ghost use Rattle.treetext.specs.Drafted.{drafted, LinesEntered};
 ghost use Rattle.treetext.specs.Text.{DraftRead, ServedAs, TreeRead};
@@ -50,10 +50,10 @@ fn enter_lines(draft: &mut Draft, text: &[u8]) -> Result<(), Refusal>
     Ok(())
 }
 
-// The draft that a text describes, or the refusal that the text earns; nothing but making the draft
-// can want memory.
+// The draft that a text describes, or the refusal that the text earns. Only making the draft can want
+// memory, and that comes after the test of the length.
 pub fn read_draft(heap: Global, text: &[u8]) -> Result<Result<Draft, Refusal>, AllocError>
-    ensures { λ r. ⌜ made r (λ d. DraftRead (now (text .entry)) (drafted d)) ⌝ }
+    ensures { λ r. ⌜ Cases r (λ d. DraftRead (now (text .entry)) (drafted d)) (λ _. length (now (text .entry)) ≤ 4096) ⌝ }
 {
     if is_too_long(text) {
         return Ok(Err(Refusal::BadText { line: 0 }));
@@ -82,7 +82,7 @@ pub fn read_tree(
     text: &[u8],
     tree: &mut Tree,
 ) -> Result<Result<(), Refusal>, AllocError>
-    ensures { λ r. ⌜ Cases r (λ a. TreeRead (now (text .entry)) a (pointsOf (now (tree .entry))) (pointsOf (now (tree .exit)))) (λ _. pointsOf (now (tree .exit)) ≡ pointsOf (now (tree .entry))) ⌝ }
+    ensures { λ r. ⌜ Cases r (λ a. TreeRead (now (text .entry)) a (pointsOf (now (tree .entry))) (pointsOf (now (tree .exit)))) (λ _. (length (now (text .entry)) ≤ 4096) × (pointsOf (now (tree .exit)) ≡ pointsOf (now (tree .entry)))) ⌝ }
 {
     let read = read_draft(heap, text)?;
     Ok(serve(read, tree))
