@@ -18,3 +18,8 @@ answered (Err e) = refuses (numberOf e) (placeOf e)
 -- One test in a row of them: where it passes, what follows decides, else it is refusal n at this place.
 abbrev pub tested : {T : Type 0} → Bool → ℕ → List ℕ → Answer T → Answer T
 tested passes n place next = cond passes next (refuses n place)
+
+-- Tests after other tests: the first refusal decides.
+abbrev pub _thereafter_ : {T : Type 0} → Answer (Unit {0}) → Answer T → Answer T
+_thereafter_ (gives u) next = next
+_thereafter_ (refuses n place) next = refuses n place

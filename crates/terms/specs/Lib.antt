@@ -1,2 +1,4 @@
 pub mod Answers
+pub mod Channels
+pub mod Figures
 pub mod Refusals

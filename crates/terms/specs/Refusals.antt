@@ -2,8 +2,10 @@
 use mathlib.Core.List.{List, [], _∷_, _++_}
 use Prim.Native.Nat.{ℕ}
 use Rattle.std.specs.Written.{decimal}
+use Rattle.terms.specs.Channels.{ordinal}
+use Rattle.terms.specs.declared.channels.Channel.{Channel}
 use Rattle.terms.specs.declared.refusals.Refusal.{Refusal}
-use Rattle.terms.specs.declared.refusals.Refusal.the-variants.{UnknownClass, TooManyPoints, WrongParent, LimitPassed, NotReady, BadText}
+use Rattle.terms.specs.declared.refusals.Refusal.the-variants.{UnknownClass, TooManyPoints, WrongParent, LimitPassed, NotReady, BrokenBook, OutsideExtent, Missing, TooLarge, ProfileTooLarge, BadText}
 
 abbrev pub numberOf : Refusal → ℕ
 numberOf (UnknownClass p) = 1
@@ -11,7 +13,16 @@ numberOf (TooManyPoints p) = 2
 numberOf (WrongParent p) = 3
 numberOf (LimitPassed p) = 4
 numberOf (NotReady m) = 5
+numberOf BrokenBook = 6
+numberOf (OutsideExtent p c i) = 7
+numberOf (Missing p c i) = 8
+numberOf (TooLarge p c i) = 9
+numberOf (ProfileTooLarge p h) = 9
 numberOf (BadText l) = 19
+
+-- the place of a reading: point, channel (C is 0 and G is 1), interval
+abbrev pub placeIn : ℕ → Channel → ℕ → List ℕ
+placeIn p c i = p ∷ ordinal c ∷ i ∷ []
 
 abbrev pub placeOf : Refusal → List ℕ
 placeOf (UnknownClass p) = p ∷ []
@@ -19,6 +30,11 @@ placeOf (TooManyPoints p) = p ∷ []
 placeOf (WrongParent p) = p ∷ []
 placeOf (LimitPassed p) = p ∷ []
 placeOf (NotReady m) = m ∷ []
+placeOf BrokenBook = []
+placeOf (OutsideExtent p c i) = placeIn p c i
+placeOf (Missing p c i) = placeIn p c i
+placeOf (TooLarge p c i) = placeIn p c i
+placeOf (ProfileTooLarge p h) = p ∷ h ∷ []
 placeOf (BadText l) = l ∷ []
 
 -- the first number of a place, 0 where it has none
@@ -26,6 +42,9 @@ abbrev pub firstOf : List ℕ → ℕ
 firstOf [] = 0
 firstOf (p ∷ ps) = p
 
--- "X", the number and the first number of the place, with single spaces
+-- "X", a refusal's number and the first number of its place, with single spaces
+abbrev pub reportText : ℕ → List ℕ → List ℕ
+reportText n place = 88 ∷ 32 ∷ (decimal n ++ (32 ∷ decimal (firstOf place)))
+
 abbrev pub refusalText : Refusal → List ℕ
-refusalText e = 88 ∷ 32 ∷ (decimal (numberOf e) ++ (32 ∷ decimal (firstOf (placeOf e))))
+refusalText e = reportText (numberOf e) (placeOf e)

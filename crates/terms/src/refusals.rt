@@ -2,6 +2,9 @@
 ghost use mathlib.Core.Path.{_≡_};
 ghost use Rattle.std.specs.declared.option.Option.the-variants.{Some};
 ghost use Rattle.terms.specs.Refusals.{firstOf, numberOf, placeOf, refusalText};
+use crate::channels::Channel;
+use crate::channels::ChannelEq;
+use crate::channels::ChannelPartialEq;
 use std::fmt;
 
 // Each case holds the values of its place. A refused call has changed nothing of what it was given.
@@ -18,6 +21,16 @@ pub enum Refusal {
     // A draft that was to go into service without a root, or with a network that has no member:
     // the monitor of the first such network, 0 for the main one and where there is no root.
     NotReady { network: usize },
+    // A book whose header or length breaks a rule.
+    BrokenBook,
+    // A correction at a place outside the extent of its source.
+    OutsideExtent { point: usize, channel: Channel, interval: u32 },
+    // Nothing at a place whose amount is needed.
+    Missing { point: usize, channel: Channel, interval: u32 },
+    // An amount above the limit of one interval.
+    TooLarge { point: usize, channel: Channel, interval: u32 },
+    // An hourly amount of a profile above its limit.
+    ProfileTooLarge { point: usize, hour: usize },
     // A line of a tree text that has another shape; line 0 is a text that is too long.
     BadText { line: usize },
 }
@@ -33,11 +46,15 @@ impl Refusal {
             Refusal::WrongParent { .. } => 3,
             Refusal::LimitPassed { .. } => 4,
             Refusal::NotReady { .. } => 5,
+            Refusal::BrokenBook => 6,
+            Refusal::OutsideExtent { .. } => 7,
+            Refusal::Missing { .. } => 8,
+            Refusal::TooLarge { .. } | Refusal::ProfileTooLarge { .. } => 9,
             Refusal::BadText { .. } => 19,
         }
     }
 
-    // The first number of the place.
+    // The first number of the place, 0 where the refusal has none.
     pub fn place(self) -> usize
         ensures { λ r. ⌜ r ≡ firstOf (placeOf self) ⌝ }
     {
@@ -45,8 +62,13 @@ impl Refusal {
             Refusal::UnknownClass { point }
             | Refusal::TooManyPoints { point }
             | Refusal::WrongParent { point }
-            | Refusal::LimitPassed { point } => point,
+            | Refusal::LimitPassed { point }
+            | Refusal::OutsideExtent { point, .. }
+            | Refusal::Missing { point, .. }
+            | Refusal::TooLarge { point, .. }
+            | Refusal::ProfileTooLarge { point, .. } => point,
             Refusal::NotReady { network } => network,
+            Refusal::BrokenBook => 0,
             Refusal::BadText { line } => line,
         }
     }
