@@ -1,7 +1,7 @@
 -- What a call answers: a value, or a refusal by its number and its place.
 use mathlib.Core.Bool.{Bool, cond}
 use mathlib.Core.List.{List}
-use Prim.Native.Nat.{ℕ}
+use Prim.Native.Nat.{ℕ, zero, suc}
 use Rattle.std.specs.declared.result.Result.{Result}
 use Rattle.std.specs.declared.result.Result.the-variants.{Ok, Err}
 use Rattle.terms.specs.Refusals.{numberOf, placeOf}
@@ -19,7 +19,14 @@ answered (Err e) = refuses (numberOf e) (placeOf e)
 abbrev pub tested : {T : Type 0} → Bool → ℕ → List ℕ → Answer T → Answer T
 tested passes n place next = cond passes next (refuses n place)
 
+infixr 20 _thereafter_
+
 -- Tests after other tests: the first refusal decides.
-abbrev pub _thereafter_ : {T : Type 0} → Answer (Unit {0}) → Answer T → Answer T
-_thereafter_ (gives u) next = next
+abbrev pub _thereafter_ : {S T : Type 0} → Answer S → Answer T → Answer T
+_thereafter_ (gives x) next = next
 _thereafter_ (refuses n place) next = refuses n place
+
+-- The first k tests of a row, one after the other.
+abbrev pub inOrder : {T : Type 0} → (ℕ → Answer T) → ℕ → Answer (Unit {0})
+inOrder tests zero = gives tt
+inOrder tests (suc k) = inOrder tests k thereafter (tests k thereafter gives tt)

@@ -11,28 +11,55 @@ use std::fmt;
 #[derive(Clone, Copy, PartialEq, Eq)]
 pub enum Refusal {
     // A point entered with a letter that stands for no class.
-    UnknownClass { point: usize },
+    UnknownClass {
+        point: usize,
+    },
     // A point entered behind 128 others.
-    TooManyPoints { point: usize },
+    TooManyPoints {
+        point: usize,
+    },
     // A point whose parent is not an earlier point of a class that it may name.
-    WrongParent { point: usize },
+    WrongParent {
+        point: usize,
+    },
     // A point that passes the limit on roots, on members of a network, on networks or on their depth.
-    LimitPassed { point: usize },
+    LimitPassed {
+        point: usize,
+    },
     // A draft that was to go into service without a root, or with a network that has no member:
     // the monitor of the first such network, 0 for the main one and where there is no root.
-    NotReady { network: usize },
+    NotReady {
+        network: usize,
+    },
     // A book whose header or length breaks a rule.
     BrokenBook,
     // A correction at a place outside the extent of its source.
-    OutsideExtent { point: usize, channel: Channel, interval: u32 },
+    OutsideExtent {
+        point: usize,
+        channel: Channel,
+        interval: u32,
+    },
     // Nothing at a place whose amount is needed.
-    Missing { point: usize, channel: Channel, interval: u32 },
+    Missing {
+        point: usize,
+        channel: Channel,
+        interval: u32,
+    },
     // An amount above the limit of one interval.
-    TooLarge { point: usize, channel: Channel, interval: u32 },
+    TooLarge {
+        point: usize,
+        channel: Channel,
+        interval: u32,
+    },
     // An hourly amount of a profile above its limit.
-    ProfileTooLarge { point: usize, hour: usize },
+    ProfileTooLarge {
+        point: usize,
+        hour: usize,
+    },
     // A line of a tree text that has another shape; line 0 is a text that is too long.
-    BadText { line: usize },
+    BadText {
+        line: usize,
+    },
 }
 
 impl Refusal {

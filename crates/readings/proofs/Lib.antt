@@ -1,0 +1,4 @@
+pub mod Judging
+pub mod Needing
+pub mod Progress
+pub mod Spreading

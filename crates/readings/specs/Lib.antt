@@ -1,0 +1,3 @@
+pub mod Hours
+pub mod Places
+pub mod Profiles
