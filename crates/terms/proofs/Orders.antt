@@ -5,14 +5,14 @@ use mathlib.Core.Logic.{_⊎_, inl, inr}
 use Prim.Native.Nat.{ℕ, zero, suc, _<_, _≤_}
 use native.Mathlib.Omega.{arith}
 use Rattle.std.proofs.shelf.Tests.{cases-lt}
-use Rattle.terms.specs.Answers.{Answer, gives, refuses, _thereafter_, inOrder}
+use Rattle.terms.specs.Answers.{Answer, gives, refuses, passing, inOrder}
 
 module _ {T : Type 0} where
   abbrev pub Passes : Answer T → Type 0
   Passes (gives x) = Unit {0}
   Passes (refuses n place) = ⊥
 
-  passes-on : (a : Answer T) → Passes a → a thereafter gives (tt {0}) ≡ gives (tt {0})
+  passes-on : (a : Answer T) → Passes a → passing a ≡ gives (tt {0})
   passes-on (gives x) p = refl
   passes-on (refuses n place) p = absurd p
 

@@ -20,13 +20,17 @@ abbrev pub tested : {T : Type 0} → Bool → ℕ → List ℕ → Answer T → 
 tested passes n place next = cond passes next (refuses n place)
 
 infixr 20 _thereafter_
-
 -- Tests after other tests: the first refusal decides.
 abbrev pub _thereafter_ : {S T : Type 0} → Answer S → Answer T → Answer T
 _thereafter_ (gives x) next = next
 _thereafter_ (refuses n place) next = refuses n place
 
+-- An answer without its value.
+abbrev pub passing : {T : Type 0} → Answer T → Answer (Unit {0})
+passing (gives x) = gives tt
+passing (refuses n place) = refuses n place
+
 -- The first k tests of a row, one after the other.
 abbrev pub inOrder : {T : Type 0} → (ℕ → Answer T) → ℕ → Answer (Unit {0})
 inOrder tests zero = gives tt
-inOrder tests (suc k) = inOrder tests k thereafter (tests k thereafter gives tt)
+inOrder tests (suc k) = inOrder tests k thereafter passing (tests k)

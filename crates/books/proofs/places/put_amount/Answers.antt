@@ -1,0 +1,30 @@
+use mathlib.Core.Path.{_≡_, subst}
+use mathlib.Core.Logic.{_⊎_}
+use Prim.Native.Nat.{ℕ, _+_, _<_, _≤_}
+use native.Mathlib.Omega.{arith}
+use lib.ListN.{getD}
+use Rattle.books.specs.Books.{offset}
+use Rattle.books.specs.Bytes.{long}
+use Rattle.books.proofs.Offsets.{corrected, header-kept, offset-inside}
+use Rattle.books.proofs.places.put_amount.Needs as need
+
+pub put-four-bytes-requires : need.put-four-bytes-requires
+put-four-bytes-requires c κs =
+    let fits = offset-inside (c .args .bytes .now) (c .args .header) (c .args .point) (c .args .channel) (c .args .interval) (c .pre .read) (c .pre .inside) in
+    omega (arith, c .offset .ensures)
+
+pub returns : need.returns
+returns c =
+    let bs = c .args .bytes .now in
+    let xs = c .put-four-bytes .last .bytes in
+    let x = c .args .header in
+    let p = c .args .point in
+    let ch = c .args .channel in
+    let i = c .args .interval in
+    let here : long xs (offset x p ch i) ≡ c .args .amount = subst (λ o. long xs o ≡ c .args .amount) (c .offset .ensures) (c .put-four-bytes .ensures .here) in
+    let others : (k : ℕ) → (k < offset x p ch i) ⊎ (offset x p ch i + 4 ≤ k) → getD xs k 0 ≡ getD bs k 0
+    = subst (λ o. (k : ℕ) → (k < o) ⊎ (o + 4 ≤ k) → getD xs k 0 ≡ getD bs k 0) (c .offset .ensures) (c .put-four-bytes .ensures .others) in
+    record {
+      places = corrected xs bs x p ch i (c .args .amount) (c .pre .read) (c .pre .inside) (c .put-four-bytes .kept .bytes) here others (c .pre .low);
+      kept = header-kept xs bs x p ch i (c .args .amount) (c .pre .read) (c .pre .inside) (c .put-four-bytes .kept .bytes) here others;
+    }

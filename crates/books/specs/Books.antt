@@ -1,0 +1,77 @@
+-- The layout of a book: a header of 12 bytes, and a block of amounts for each channel, wherever the
+-- header puts it.
+use mathlib.Core.Bool.{Bool, false, cond, _&&_, _||_}
+use mathlib.Core.List.{List, []}
+use Prim.Native.Nat.{ℕ, _+_, _-_, _*_, _%_}
+use lib.Dec.{leb, ltb, eqb}
+use lib.ListN.{length}
+use Rattle.std.specs.declared.option.Option.{Option}
+use Rattle.std.specs.declared.option.Option.the-variants.{Some, None}
+use Rattle.terms.specs.Answers.{Answer, gives, tested}
+use Rattle.terms.specs.declared.channels.Channel.{Channel}
+use Rattle.terms.specs.declared.channels.Channel.the-variants.{C, G}
+use Rattle.books.specs.Bytes.{word, long}
+use Rattle.books.specs.declared.headers.Header.{Header}
+
+-- what stands in the first 12 bytes: how many points and intervals there are, and at which bytes the
+-- blocks of C and G begin
+abbrev pub headerOf : List ℕ → Header
+headerOf bs = record { points = word bs 0; intervals = word bs 2; c = long bs 4; g = long bs 8 }
+
+-- 1 to 128 points; 12 to 8,928 intervals, in whole hours
+abbrev pub countsLawful : ℕ → ℕ → Bool
+countsLawful n t = leb 1 n && leb n 128 && leb 12 t && leb t 8928 && eqb (t % 12) 0
+
+-- blocks of that size at c and g begin behind the header, lie inside the bytes and share no byte
+abbrev pub blocksLawful : ℕ → ℕ → ℕ → ℕ → Bool
+blocksLawful len size c g =
+    leb 12 c && leb 12 g && leb (c + size) len && leb (g + size) len && (leb (c + size) g || leb (g + size) c)
+
+-- the rules on a book of len bytes with this header; an amount takes 4 bytes
+abbrev pub lawful : ℕ → Header → Bool
+lawful len x = leb 12 len && countsLawful (x .points) (x .intervals) && blocksLawful len (4 * (x .points * x .intervals)) (x .c) (x .g)
+
+abbrev pub wellFormed : List ℕ → Bool
+wellFormed bs = lawful (length bs) (headerOf bs)
+
+-- the header of a book that keeps every rule
+abbrev pub lawfulHeader : List ℕ → Option Header
+lawfulHeader bs = cond (wellFormed bs) (Some (headerOf bs)) None
+
+-- the points 1 to n and the intervals 0 to t - 1
+abbrev pub holds : Header → ℕ → ℕ → Bool
+holds x p i = leb 1 p && leb p (x .points) && ltb i (x .intervals)
+
+abbrev pub blockOf : Header → Channel → ℕ
+blockOf x C = x .c
+blockOf x G = x .g
+
+-- where the amount of a place begins: in the channel's block, point after point
+abbrev pub offset : Header → ℕ → Channel → ℕ → ℕ
+offset x p c i = blockOf x c + 4 * ((p - 1) * x .intervals + i)
+
+-- FFFFFFFF means nothing
+abbrev pub entry : ℕ → Option ℕ
+entry v = cond (eqb v 0xffffffff) None (Some v)
+
+-- the places of a book with this header; where a rule is broken there is none
+abbrev pub placesBy : Option Header → ℕ → ℕ → Bool
+placesBy None p i = false
+placesBy (Some x) p i = holds x p i
+
+-- what the bytes of a book with this header have at a place
+abbrev pub amountBy : List ℕ → Option Header → ℕ → Channel → ℕ → Option ℕ
+amountBy bs None p c i = None
+amountBy bs (Some x) p c i = cond (holds x p i) (entry (long bs (offset x p c i))) None
+
+-- the places of a book
+abbrev pub extent : List ℕ → ℕ → ℕ → Bool
+extent bs p i = placesBy (lawfulHeader bs) p i
+
+-- what a book has at a place
+abbrev pub bookAt : List ℕ → ℕ → Channel → ℕ → Option ℕ
+bookAt bs p c i = amountBy bs (lawfulHeader bs) p c i
+
+-- the book check
+abbrev pub bookTests : List ℕ → Answer (Unit {0})
+bookTests bs = tested (wellFormed bs) 6 [] (gives tt)

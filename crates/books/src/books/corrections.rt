@@ -1,0 +1,28 @@
+// Corrections of a working book.
+ghost use denote.Ref.{name, now as held};
+ghost use mathlib.Core.Path.{_≡_};
+ghost use Rattle.books.specs.Books.{extent as placesOf};
+use crate::books::WorkingBook;
+use crate::books::WorkingBookSource;
+use crate::places::admitted;
+use readings::Correctable;
+use terms::Channel;
+use terms::Refusal;
+
+pub impl<'a> Correctable for WorkingBook<'a> as WorkingBookCorrectable {
+    ghost extent = { λ s p c i. placesOf (held (s .lent .bytes)) p i };
+
+    ghost tied = { λ s t. name (s .lent .bytes) ≡ name (t .lent .bytes) };
+
+    fn correct(
+        &mut self,
+        point: usize,
+        channel: Channel,
+        interval: u32,
+        amount: u32,
+    ) -> Result<(), Refusal> {
+        let header = admitted(self.header, point, channel, interval, amount)?;
+        self.lent.put(header, point, channel, interval, amount);
+        Ok(())
+    }
+}

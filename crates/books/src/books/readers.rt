@@ -1,0 +1,49 @@
+// Making books, and reading them.
+ghost use denote.Ref.{name, now as held};
+ghost use mathlib.Core.Path.{_≡_};
+ghost use Rattle.books.specs.Books.{bookAt};
+use crate::books::Book;
+use crate::books::WorkingBook;
+use crate::headers::Header;
+use crate::lent::Lent;
+use crate::places::amount_at;
+use readings::Source;
+use terms::Channel;
+
+impl<'a> Book<'a> {
+    pub fn new(bytes: &'a [u8]) -> Book<'a>
+        ensures { λ r. ⌜ now (r .bytes) ≡ now (bytes .entry) ⌝ }
+    {
+        let header = Header::read(bytes);
+        Book { bytes, header }
+    }
+}
+
+impl<'a> WorkingBook<'a> {
+    pub fn new(bytes: &'a mut [u8]) -> WorkingBook<'a>
+        ensures value { λ r. ⌜ now (r .lent .bytes) ≡ now (bytes .entry) ⌝ }
+        ensures lender { λ r. ⌜ name (r .lent .bytes) ≡ name (bytes .entry) ⌝ }
+    {
+        let header = Header::read(bytes);
+        WorkingBook {
+            lent: Lent { bytes },
+            header,
+        }
+    }
+}
+
+pub impl<'a> Source for Book<'a> as BookSource {
+    ghost at = { λ s. bookAt (held (s .bytes)) };
+
+    fn reading(&self, point: usize, channel: Channel, interval: u32) -> Option<u32> {
+        amount_at(self.bytes, self.header, point, channel, interval)
+    }
+}
+
+pub impl<'a> Source for WorkingBook<'a> as WorkingBookSource {
+    ghost at = { λ s. bookAt (held (s .lent .bytes)) };
+
+    fn reading(&self, point: usize, channel: Channel, interval: u32) -> Option<u32> {
+        amount_at(self.lent.bytes, self.header, point, channel, interval)
+    }
+}
