@@ -1,7 +1,8 @@
-// Prints the tree that tree.txt in the working directory describes, or why it is refused.
+// Prints the hour values of hour 0, by the tree in tree.txt and the readings in book.bin of the working
+// directory, or why one of them is refused.
 mod lists;
 
-use lists::tree_listing;
+use lists::hour_listing;
 use std::fs;
 use std::io;
 use std::io::ErrorKind;
@@ -22,7 +23,8 @@ fn read_or_empty(rt: &LibcRuntime, path: &str) -> io::Result<Vec<u8>> {
 
 fn main(rt: LibcRuntime) -> io::Result<()> {
     let text = read_or_empty(&rt, "tree.txt")?;
-    let listing = tree_listing(rt.alloc(), text.as_slice())?;
+    let book = read_or_empty(&rt, "book.bin")?;
+    let listing = hour_listing(rt.alloc(), text.as_slice(), book.as_slice())?;
     print!(rt, "{listing}")
 }
 
