@@ -1,10 +1,8 @@
-// Books: readings in bytes. The header is read when a book is made, and the type says that it is still
-// that of the bytes.
+// Books: readings in bytes.
 ghost use denote.Ref.{now as held};
 ghost use mathlib.Core.Path.{_≡_};
 ghost use Rattle.books.specs.Books.{lawfulHeader};
 use crate::headers::Header;
-use crate::lent::Lent;
 
 mod checks;
 mod corrections;
@@ -15,7 +13,8 @@ pub use corrections::WorkingBookCorrectable;
 pub use readers::BookSource;
 pub use readers::WorkingBookSource;
 
-// A book over bytes that are only read. Where they break a rule it has nothing at any place.
+// A book over bytes that are only read. Its header is read when the book is made, and the type says that
+// it is that of the bytes. Where they break a rule the book has nothing at any place.
 #[derive(Drop)]
 pub struct Book<'a> {
     bytes: &'a [u8],
@@ -23,10 +22,8 @@ pub struct Book<'a> {
     ghost read: { header ≡ lawfulHeader (held bytes) },
 }
 
-// A book over bytes that corrections write to.
+// A book over bytes that corrections write to. It has no invariant, so that it can stand in a pile.
 #[derive(Drop)]
 pub struct WorkingBook<'a> {
-    lent: Lent<'a>,
-    header: Option<Header>,
-    ghost read: { header ≡ lawfulHeader (held (lent .bytes)) },
+    bytes: &'a mut [u8],
 }

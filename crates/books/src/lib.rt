@@ -2,7 +2,6 @@
 mod books;
 mod bytes;
 mod headers;
-mod lent;
 mod places;
 
 pub use books::Book;

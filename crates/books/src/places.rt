@@ -1,12 +1,13 @@
 // Amounts in the bytes of a book, by the header that was read once.
 ghost use mathlib.Core.Path.{_≡_};
 ghost use mathlib.Core.Bool.{true};
-ghost use Prim.Native.Nat.{_≤_};
+ghost use Prim.Native.Nat.{ℕ, _≤_};
+ghost use Rattle.std.specs.Results.{isErr, isOk};
 ghost use Rattle.std.specs.Vec.{made};
 ghost use Rattle.std.specs.declared.option.Option.the-variants.{Some};
 ghost use Rattle.terms.specs.Answers.{answered, passing};
 ghost use Rattle.readings.specs.Places.{correctionTests, Corrected, limit};
-ghost use Rattle.books.specs.Books.{bookAt, entry, holds, lawfulHeader, placesBy};
+ghost use Rattle.books.specs.Books.{bookAt, entry, extent, holds, lawfulHeader, placesBy};
 use crate::bytes::four_bytes;
 use crate::bytes::put_four_bytes;
 use crate::headers::Header;
@@ -47,7 +48,7 @@ pub fn amount_at(
 }
 
 // The tests of a correction. Where they pass, the answer is the header that has the place.
-pub fn admitted(
+fn admitted(
     header: Option<Header>,
     point: usize,
     channel: Channel,
@@ -82,7 +83,7 @@ pub fn admitted(
 }
 
 // Writes an amount at a place of a book.
-pub fn put_amount(
+fn put_amount(
     bytes: &mut [u8],
     header: Header,
     point: usize,
@@ -94,7 +95,25 @@ pub fn put_amount(
     requires inside { ⌜ holds header point interval ≡ true ⌝ }
     requires low { ⌜ amount ≤ limit ⌝ }
     ensures places { λ _. ⌜ Corrected (bookAt (now (bytes .entry))) (bookAt (now (bytes .exit))) point channel interval amount ⌝ }
-    ensures kept { λ _. ⌜ lawfulHeader (now (bytes .exit)) ≡ lawfulHeader (now (bytes .entry)) ⌝ }
+    ensures stays { λ _. ⌜ ((q j : ℕ) → extent (now (bytes .exit)) q j ≡ extent (now (bytes .entry)) q j) ⌝ }
 {
     put_four_bytes(bytes, header.offset(point, channel, interval), amount);
+}
+
+// Corrects a place of a book.
+pub fn correct_at(
+    bytes: &mut [u8],
+    point: usize,
+    channel: Channel,
+    interval: u32,
+    amount: u32,
+) -> Result<(), Refusal>
+    ensures answer { λ r. ⌜ answered r ≡ correctionTests (extent (now (bytes .entry)) point interval) point channel interval amount ⌝ }
+    ensures places { λ r. ⌜ (isOk r ≡ true → Corrected (bookAt (now (bytes .entry))) (bookAt (now (bytes .exit))) point channel interval amount) ⌝ }
+    ensures refused { λ r. ⌜ (isErr r ≡ true → now (bytes .exit) ≡ now (bytes .entry)) ⌝ }
+    ensures stays { λ _. ⌜ ((q j : ℕ) → extent (now (bytes .exit)) q j ≡ extent (now (bytes .entry)) q j) ⌝ }
+{
+    let header = admitted(Header::read(bytes), point, channel, interval, amount)?;
+    put_amount(bytes, header, point, channel, interval, amount);
+    Ok(())
 }

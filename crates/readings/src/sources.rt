@@ -1,8 +1,8 @@
 // What a source of readings is, and one that takes corrections.
 ghost use mathlib.Core.Path.{_≡_};
-ghost use mathlib.Core.Bool.{Bool};
+ghost use mathlib.Core.Bool.{Bool, true};
 ghost use Prim.Native.Nat.{ℕ};
-ghost use Rattle.std.specs.Results.{Cases};
+ghost use Rattle.std.specs.Results.{isErr, isOk};
 ghost use Rattle.std.specs.declared.option.Option.{Option};
 ghost use Rattle.terms.specs.Answers.{answered};
 ghost use Rattle.terms.specs.declared.channels.Channel.{Channel};
@@ -40,7 +40,8 @@ pub trait Correctable: Source {
         amount: u32,
     ) -> Result<(), Refusal>
         ensures answer { λ r. ⌜ answered r ≡ correctionTests (extent (now (self .entry)) point channel interval) point channel interval amount ⌝ }
-        ensures places { λ r. ⌜ Cases r (λ _. Corrected (Self·Source .at (now (self .entry))) (Self·Source .at (now (self .exit))) point channel interval amount) (λ _. now (self .exit) ≡ now (self .entry)) ⌝ }
+        ensures places { λ r. ⌜ (isOk r ≡ true → Corrected (Self·Source .at (now (self .entry))) (Self·Source .at (now (self .exit))) point channel interval amount) ⌝ }
+        ensures refused { λ r. ⌜ (isErr r ≡ true → now (self .exit) ≡ now (self .entry)) ⌝ }
         ensures stays { λ _. ⌜ ((q : ℕ) (d : Channel) (j : ℕ) → extent (now (self .exit)) q d j ≡ extent (now (self .entry)) q d j) ⌝ }
         ensures lender { λ _. ⌜ tied (now (self .entry)) (now (self .exit)) ⌝ };
 }

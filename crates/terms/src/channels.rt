@@ -53,7 +53,8 @@ pub impl Amount for AmountC as AmountOnC {
     }
 
     fn wh(self) -> i64 {
-        self.0
+        let AmountC(number) = self;
+        number
     }
 }
 
@@ -71,7 +72,8 @@ pub impl Amount for AmountG as AmountOnG {
     }
 
     fn wh(self) -> i64 {
-        self.0
+        let AmountG(number) = self;
+        number
     }
 }
 

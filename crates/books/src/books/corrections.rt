@@ -4,15 +4,15 @@ ghost use mathlib.Core.Path.{_≡_};
 ghost use Rattle.books.specs.Books.{extent as placesOf};
 use crate::books::WorkingBook;
 use crate::books::WorkingBookSource;
-use crate::places::admitted;
+use crate::places::correct_at;
 use readings::Correctable;
 use terms::Channel;
 use terms::Refusal;
 
 pub impl<'a> Correctable for WorkingBook<'a> as WorkingBookCorrectable {
-    ghost extent = { λ s p c i. placesOf (held (s .lent .bytes)) p i };
+    ghost extent = { λ s p c i. placesOf (held (s .bytes)) p i };
 
-    ghost tied = { λ s t. name (s .lent .bytes) ≡ name (t .lent .bytes) };
+    ghost tied = { λ s t. name (s .bytes) ≡ name (t .bytes) };
 
     fn correct(
         &mut self,
@@ -21,8 +21,6 @@ pub impl<'a> Correctable for WorkingBook<'a> as WorkingBookCorrectable {
         interval: u32,
         amount: u32,
     ) -> Result<(), Refusal> {
-        let header = admitted(self.header, point, channel, interval, amount)?;
-        self.lent.put(header, point, channel, interval, amount);
-        Ok(())
+        correct_at(self.bytes, point, channel, interval, amount)
     }
 }

@@ -5,7 +5,6 @@ ghost use Rattle.books.specs.Books.{bookAt};
 use crate::books::Book;
 use crate::books::WorkingBook;
 use crate::headers::Header;
-use crate::lent::Lent;
 use crate::places::amount_at;
 use readings::Source;
 use terms::Channel;
@@ -21,14 +20,10 @@ impl<'a> Book<'a> {
 
 impl<'a> WorkingBook<'a> {
     pub fn new(bytes: &'a mut [u8]) -> WorkingBook<'a>
-        ensures value { λ r. ⌜ now (r .lent .bytes) ≡ now (bytes .entry) ⌝ }
-        ensures lender { λ r. ⌜ name (r .lent .bytes) ≡ name (bytes .entry) ⌝ }
+        ensures value { λ r. ⌜ now (r .bytes) ≡ now (bytes .entry) ⌝ }
+        ensures lender { λ r. ⌜ name (r .bytes) ≡ name (bytes .entry) ⌝ }
     {
-        let header = Header::read(bytes);
-        WorkingBook {
-            lent: Lent { bytes },
-            header,
-        }
+        WorkingBook { bytes }
     }
 }
 
@@ -41,9 +36,15 @@ pub impl<'a> Source for Book<'a> as BookSource {
 }
 
 pub impl<'a> Source for WorkingBook<'a> as WorkingBookSource {
-    ghost at = { λ s. bookAt (held (s .lent .bytes)) };
+    ghost at = { λ s. bookAt (held (s .bytes)) };
 
     fn reading(&self, point: usize, channel: Channel, interval: u32) -> Option<u32> {
-        amount_at(self.lent.bytes, self.header, point, channel, interval)
+        amount_at(
+            self.bytes,
+            Header::read(self.bytes),
+            point,
+            channel,
+            interval,
+        )
     }
 }

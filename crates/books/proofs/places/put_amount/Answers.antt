@@ -1,9 +1,9 @@
-use mathlib.Core.Path.{_≡_, subst}
+use mathlib.Core.Path.{_≡_, ap, subst}
 use mathlib.Core.Logic.{_⊎_}
 use Prim.Native.Nat.{ℕ, _+_, _<_, _≤_}
 use native.Mathlib.Omega.{arith}
 use lib.ListN.{getD}
-use Rattle.books.specs.Books.{offset}
+use Rattle.books.specs.Books.{offset, placesBy}
 use Rattle.books.specs.Bytes.{long}
 use Rattle.books.proofs.Offsets.{corrected, header-kept, offset-inside}
 use Rattle.books.proofs.places.put_amount.Needs as need
@@ -26,5 +26,5 @@ returns c =
     = subst (λ o. (k : ℕ) → (k < o) ⊎ (o + 4 ≤ k) → getD xs k 0 ≡ getD bs k 0) (c .offset .ensures) (c .put-four-bytes .ensures .others) in
     record {
       places = corrected xs bs x p ch i (c .args .amount) (c .pre .read) (c .pre .inside) (c .put-four-bytes .kept .bytes) here others (c .pre .low);
-      kept = header-kept xs bs x p ch i (c .args .amount) (c .pre .read) (c .pre .inside) (c .put-four-bytes .kept .bytes) here others;
+      stays = λ q j. ap (λ h. placesBy h q j) (header-kept xs bs x p ch i (c .args .amount) (c .pre .read) (c .pre .inside) (c .put-four-bytes .kept .bytes) here others);
     }
