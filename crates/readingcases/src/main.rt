@@ -6,6 +6,8 @@
 //     pile N T A H            the same, with nothing at any place, on a profile of point 1 with amount A
 //     piles N T A H           the same, on a pile of that profile on one of point 2 with amount 2 A
 //     profile P A H           a profile of point P with amount A at every hour
+//     net A B                 the net of amount A on channel C and amount B on channel G
+//     mwh W                   W watt-hours, which may be negative, in MWh
 //
 // Behind a source stand corrections, each after a semicolon: point, channel, interval and amount. Each is
 // made, and then the place is read. Where = stands before the four, the amount is written into the bytes
@@ -37,6 +39,7 @@ use terms::AmountOnG;
 use terms::Channel;
 use terms::Mwh;
 use terms::MwhDisplay;
+use terms::NetOfAmounts;
 use terms::Refusal;
 use terms::RefusalDisplay;
 
@@ -204,7 +207,7 @@ fn worked<S: Correctable>(
 ) -> Result<String, AllocError> {
     let mut text = String::new(heap);
     for piece in corrections.split(';').skip(1) {
-        if !piece.contains('=') {
+        if !piece.trim().starts_with('=') {
             let line = corrected(heap, source, read_change(piece.trim()))?;
             text.push_str(line.as_str())?;
         }
@@ -245,6 +248,20 @@ fn spread(heap: Global, profile: &Profile, point: usize, hour: u16) -> Result<St
     Ok(text)
 }
 
+// The net of an amount on channel C and one on channel G.
+fn netted(heap: Global, a: u32, b: u32) -> Result<String, AllocError> {
+    let consumed = AmountC::from_wh(i64::from(a));
+    let generated = AmountG::from_wh(i64::from(b));
+    let net = Mwh(consumed - generated);
+    format!(heap, "{net}")
+}
+
+// Watt-hours in MWh.
+fn in_mwh(heap: Global, digits: &str) -> Result<String, AllocError> {
+    let figure = Mwh(digits.trim().parse::<i64>().unwrap_or(0));
+    format!(heap, "{figure}")
+}
+
 // The first word of a case, and up to five numbers behind it.
 #[derive(Clone, Copy)]
 struct Case<'a> {
@@ -275,8 +292,10 @@ fn book_case(heap: Global, case: Case<'_>, line: &str) -> Result<String, AllocEr
     let points = n as usize;
     if case.kind == "book" {
         let mut bytes = filled(heap, n, t, amount)?;
-        for piece in line.split('=').skip(1) {
-            write_raw(&mut bytes, n, t, read_change(piece.trim()));
+        for piece in line.split(';').skip(1) {
+            if let Some(raw) = piece.trim().strip_prefix('=') {
+                write_raw(&mut bytes, n, t, read_change(raw.trim()));
+            }
         }
         let mut book = WorkingBook::new(bytes.as_mut_slice());
         return worked(heap, &mut book, line, points, hour);
@@ -315,6 +334,8 @@ fn outcome(heap: Global, line: &str) -> Result<String, AllocError> {
             Ok(profile) => spread(heap, &profile, a as usize, (c % 65536) as u16),
             Err(refusal) => refused(heap, refusal),
         },
+        "net" => netted(heap, a, b),
+        "mwh" => in_mwh(heap, line.strip_prefix("mwh").unwrap_or("")),
         _ => book_case(heap, case, line),
     }
 }

@@ -7,6 +7,8 @@ use mathlib.Core.List.{List, [], _∷_}
 use mathlib.Core.Logic.{_⊎_, inl, inr, _≢_}
 use lib.ListN.{getD, set, length}
 use lib.IntN.{ℤ, pos}
+use Rattle.std.specs.declared.option.Option.{Option}
+use Rattle.std.specs.declared.option.Option.the-variants.{Some, None}
 use lib.Seq.{getD-set-same, getD-set-other}
 use Rattle.std.proofs.shelf.Tests.{cases-lt, cases-eq}
 use Rattle.terms.specs.Answers.{refuses}
@@ -14,7 +16,7 @@ use Rattle.terms.specs.Channels.{ordinal}
 use Rattle.terms.specs.declared.channels.Channel.{Channel}
 use Rattle.terms.specs.declared.channels.Channel.the-variants.{C, G}
 use Rattle.readings.specs.Hours.{InHour, Earlier, amountOf, sumFrom, hourSum, slot, Written, Integrated, FirstFault}
-use Rattle.readings.specs.Places.{Readings, needed, Usable}
+use Rattle.readings.specs.Places.{Readings, limit, needed, Usable}
 
 -- every place of the hour that comes before point p, channel m, interval i is usable
 abbrev pub Passed : Readings → ℕ → ℕ → ℕ → ℕ → Type 0
@@ -35,6 +37,10 @@ pub ordinal-at : (m : ℕ) → m < 2 → ordinal (getD (C ∷ G ∷ []) m C) ≡
 ordinal-at zero h = refl
 ordinal-at (suc zero) h = refl
 ordinal-at (suc (suc m)) h = absurd (omega arith)
+
+usable-amount : (o : Option ℕ) → Usable o → amountOf o ≤ limit
+usable-amount None u = absurd u
+usable-amount (Some a) u = u
 
 module _ (at : Readings) (h : ℕ) where
   pub passed-none : Passed at h 1 0 0
@@ -119,9 +125,19 @@ module _ (at : Readings) (h : ℕ) where
       sums q d a (inl lt) = elim (cases-lt q p) [ inl less ↦ w .sums q d a (inl less) | inr more ↦ w .sums q d a (inr (omega arith, ordinal-below d)) ]
       sums q d a (inr (same, lt)) = absurd (omega arith)
 
+  -- k usable amounts are at most k times the limit
+  sum-bound : (p : ℕ) (c : Channel) (i k : ℕ) → ((j : ℕ) → i ≤ j → j < i + k → Usable (at p c j)) → sumFrom at p c i k ≤ 15000000 * k
+  unfolding sumFrom
+  sum-bound p c i zero u = omega arith
+  sum-bound p c i (suc k) u =
+      let before : sumFrom at p c i k ≤ 15000000 * k = sum-bound p c i k (λ j low high. u j low (omega arith)) in
+      let here : amountOf (at p c (i + k)) ≤ limit = usable-amount (at p c (i + k)) (u (i + k) (omega arith) (omega arith)) in
+      omega arith
+
   pub all-read : (n p : ℕ) (old hours : List ℤ) → p ≡ n + 1 → Passed at h p 0 0 → Written at h old hours p 0 → Integrated at n h old hours
   all-read n p old hours over past w = record {
     usable = λ q d j r. past q d j (r .0) (r .2) (r .3) (inl (omega arith));
+    bounded = λ q d low high. sum-bound q d (12 * h) 12 (λ j from to. past q d j low from to (inl (omega arith)));
     written = subst (λ x. Written at h old hours x 0) over w;
   }
 
@@ -137,10 +153,16 @@ module _ (at : Readings) (h : ℕ) where
     written = subst (λ x. Written at h old hours p x) (sym o) w;
   }
 
-  pub sum-none : (p : ℕ) (c : Channel) → sumFrom at p c (12 * h) 0 ≡ 0
+  -- the sum of no amounts, and of one more
+  pub sum-none : (p : ℕ) (c : Channel) (i : ℕ) → i ≡ 12 * h → sumFrom at p c (12 * h) (i - 12 * h) ≡ 0
   unfolding sumFrom
-  sum-none p c = refl
+  sum-none p c i e = let none : i - 12 * h ≡ 0 = omega arith in rw none refl
 
-  pub sum-more : (p : ℕ) (c : Channel) (i k : ℕ) → sumFrom at p c i (k + 1) ≡ sumFrom at p c i k + amountOf (at p c (i + k))
+  pub sum-more : (p : ℕ) (c : Channel) (i a s : ℕ) → 12 * h ≤ i → at p c i ≡ Some a → s ≡ sumFrom at p c (12 * h) (i - 12 * h)
+      → s + a ≡ sumFrom at p c (12 * h) (i + 1 - 12 * h)
   unfolding sumFrom
-  sum-more p c i k = rw add-one
+  sum-more p c i a s low is before =
+      let next : i + 1 - 12 * h ≡ suc (i - 12 * h) = omega arith in
+      let here : 12 * h + (i - 12 * h) ≡ i = omega arith in
+      let new : amountOf (at p c (12 * h + (i - 12 * h))) ≡ a = ap (λ j. amountOf (at p c j)) here ∙ ap amountOf is in
+      rw next (omega arith)

@@ -61,9 +61,14 @@ pub record Written (at : Readings) (h : ℕ) (old hours : List ℤ) (p c : ℕ) 
   pub sums : (q : ℕ) (d : Channel) → 1 ≤ q → (q < p) ⊎ ((q ≡ p) × (ordinal d < c)) → getD hours (slot q (ordinal d)) (pos 0) ≡ pos (hourSum at q d h)
   pub rest : (k : ℕ) → slot p c ≤ k → getD hours k (pos 0) ≡ getD old k (pos 0)
 
--- every place of the hour is usable, and all hour values are written
+-- the most that a point has in an hour on a channel: twelve times the limit of an interval
+abbrev pub hourMost : ℕ
+hourMost = 180000000
+
+-- every place of the hour is usable, so that no hour value is above its limit, and all are written
 pub record Integrated (at : Readings) (n h : ℕ) (old hours : List ℤ) : Type 0 where
   pub usable : (q : ℕ) (d : Channel) (j : ℕ) → InHour n h q j → Usable (at q d j)
+  pub bounded : (q : ℕ) (d : Channel) → 1 ≤ q → q ≤ n → hourSum at q d h ≤ hourMost
   pub written : Written at h old hours (n + 1) 0
 
 -- refusal m names the first place of the hour that is not usable; the hour values before it are written

@@ -1,6 +1,6 @@
 // The integration of an hour.
 ghost use mathlib.Core.Path.{_≡_};
-ghost use Prim.Native.Nat.{ℕ, _*_, _/_, _^_, _<_, _≤_};
+ghost use Prim.Native.Nat.{_+_, _*_, _/_, _^_, _<_, _≤_};
 ghost use lib.ListN.{length};
 ghost use Rattle.std.specs.Options.{mapped};
 ghost use Rattle.terms.specs.Answers.{answered};
@@ -41,6 +41,14 @@ fn needed_amount<S: Source>(
     }
 }
 
+// The intervals of an hour: the first, and the one behind the last.
+fn intervals_of(hour: u16) -> (u32, u32)
+    ensures { λ r. ⌜ (r .0 ≡ 12 * hour) × (r .1 ≡ 12 * hour + 12) ⌝ }
+{
+    let first = 12 * u32::from(hour);
+    (first, first + 12)
+}
+
 // Where the hour value of a point on a channel stands among lent numbers.
 fn slot_of(point: usize, channel: Channel) -> usize
     requires from_one { ⌜ 1 ≤ point ⌝ }
@@ -58,13 +66,13 @@ pub fn integrate_hour<S: Source>(source: &S, hour: u16, hours: &mut [i64]) -> Re
     ensures read { λ r. ⌜ HourRead (S·Source .at (now (source .entry))) (length (now (hours .entry)) / 2) hour (now (hours .entry)) (now (hours .exit)) (answered r) ⌝ }
 {
     let n = hours.len() / 2;
-    let start = 12 * u32::from(hour);
+    let (start, end) = intervals_of(hour);
     'places: {
         for point in 1..=n {
             for channel in [Channel::C, Channel::G] {
                 let mut sum: u32 = 0;
-                for k in 0..12 {
-                    match needed_amount(source, point, channel, start + k) {
+                for interval in start..end {
+                    match needed_amount(source, point, channel, interval) {
                         Ok(amount) => sum += amount,
                         Err(refusal) => break 'places Err(refusal),
                     }

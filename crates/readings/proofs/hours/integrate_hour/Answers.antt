@@ -1,6 +1,6 @@
 use mathlib.Core.Path.{_≡_, refl, sym, ap, subst, _∙_}
 use mathlib.Core.List.{List, [], _∷_}
-use Prim.Native.Nat.{ℕ, _+_, _*_, _/_, _≤_}
+use Prim.Native.Nat.{ℕ, _+_, _-_, _*_, _/_, _≤_}
 use native.Mathlib.Omega.{arith}
 use borrow.Author.Needs.{needs}
 use lib.IntN.{ℤ, pos}
@@ -31,34 +31,36 @@ loop-point-holds g c = (passed-none _ _, written-none _ _ _, omega arith)
 pub loop-channel-holds : need.loop-channel-holds
 loop-channel-holds g c = (c .loop-point .inv .0, written-again _ _ _ _ _ _ (c .loop-point .inv .1))
 
-pub loop-k-holds : need.loop-k-holds
-loop-k-holds g c = (passed-start _ _ _ _ _ (omega arith) (c .loop-channel .inv .0), sym (sum-none _ _ _ _), omega arith)
+pub loop-interval-holds : need.loop-interval-holds
+loop-interval-holds g c =
+    let start = c .intervals-of-start .ensures .0 in
+    (passed-start _ _ _ _ _ (omega arith) (c .loop-channel .inv .0), sym (sum-none _ _ _ _ _ start), omega arith)
 
 -- the place of this turn has the amount, and it is within the limit
 here : (g : given.Over) (c : need.In-Ok g)
-    → (g .S·Source .at (c .args .source .now) (c .loop-point .point) (channelAt (c .loop-channel .channel-index)) (12 * c .args .hour + c .loop-k .k) ≡ Some (c .in-Ok .amount))
+    → (g .S·Source .at (c .args .source .now) (c .loop-point .point) (channelAt (c .loop-channel .channel-index)) (c .loop-interval .interval) ≡ Some (c .in-Ok .amount))
     × (c .in-Ok .amount ≤ limit)
 here g c =
-    let at = g .S·Source .at (c .args .source .now) in
     let p = c .loop-point .point in
-    let m = c .loop-channel .channel-index in
-    found (at p (channelAt m) (12 * c .args .hour + c .loop-k .k)) (c .in-Ok .amount) p (channelAt m) (12 * c .args .hour + c .loop-k .k)
-    (subst (λ x. gives (c .in-Ok .amount) ≡ needed (at p (channelAt m) (12 * x + c .loop-k .k)) p (channelAt m) (12 * x + c .loop-k .k)) (c .from-start .ensures) (c .in-Ok .ensures tt))
+    let ch = channelAt (c .loop-channel .channel-index) in
+    let i = c .loop-interval .interval in
+    found (g .S·Source .at (c .args .source .now) p ch i) (c .in-Ok .amount) p ch i (c .in-Ok .ensures tt)
 
 pub add-sum : need.add-sum
-add-sum g c = omega (arith, here g c .1, c .loop-k .inv .2)
+add-sum g c = omega (arith, here g c .1, c .loop-interval .inv .2, c .intervals-of-start .ensures .0, c .intervals-of-start .ensures .1)
 
-pub loop-k-again : need.loop-k-again
-loop-k-again g c =
+pub loop-interval-again : need.loop-interval-again
+loop-interval-again g c =
     let at = g .S·Source .at (c .args .source .now) in
     let h = c .args .hour in
     let p = c .loop-point .point in
     let m = c .loop-channel .channel-index in
-    let is = here g c in (
-      passed-place at h p (channelAt m) m (12 * h + c .loop-k .k) _ (ordinal-at m (c .loop-channel-test .taken)) (omega arith) (subst Usable (sym (is .0)) (is .1)) (c .loop-k .inv .0),
-      ap (λ s. s + c .in-Ok .amount) (c .loop-k .inv .1)
-          ∙ (ap (λ o. sumFrom at p (channelAt m) (12 * h) (c .loop-k .k) + amountOf o) (sym (is .0)) ∙ sym (sum-more at h p _ _ _)),
-      omega (arith, is .1, c .loop-k .inv .2),
+    let i = c .loop-interval .interval in
+    let is = here g c in
+    let start = c .intervals-of-start .ensures .0 in (
+      passed-place at h p (channelAt m) m i _ (ordinal-at m (c .loop-channel-test .taken)) refl (subst Usable (sym (is .0)) (is .1)) (c .loop-interval .inv .0),
+      sum-more at h p (channelAt m) i (c .in-Ok .amount) (c .loop-interval .sum) (omega arith) (is .0) (c .loop-interval .inv .1),
+      omega (arith, is .1, c .loop-interval .inv .2),
     )
 
 pub loop-channel-again : need.loop-channel-again
@@ -66,9 +68,12 @@ loop-channel-again g c =
     let at = g .S·Source .at (c .args .source .now) in
     let m = c .loop-channel .channel-index in
     let o = ordinal-at m (c .loop-channel-test .taken) in
-    let k12 : c .loop-k .k ≡ 12 = omega arith in
-    let total : c .loop-k .sum ≡ sumFrom at (c .loop-point .point) (channelAt m) (12 * c .args .hour) 12 = c .loop-k .inv .1 ∙ ap (λ k. sumFrom at (c .loop-point .point) (channelAt m) (12 * c .args .hour) k) k12 in (
-      passed-channel at (c .args .hour) _ _ _ (omega arith) (c .loop-k .inv .0),
+    let start = c .intervals-of-start .ensures .0 in
+    let end = c .intervals-of-start .ensures .1 in
+    let twelve : c .loop-interval .interval - 12 * c .args .hour ≡ 12 = omega arith in
+    let total : c .loop-interval .sum ≡ sumFrom at (c .loop-point .point) (channelAt m) (12 * c .args .hour) 12
+    = c .loop-interval .inv .1 ∙ ap (λ k. sumFrom at (c .loop-point .point) (channelAt m) (12 * c .args .hour) k) twelve in (
+      passed-channel at (c .args .hour) _ _ _ (omega arith) (c .loop-interval .inv .0),
       written-channel at (c .args .hour) _ (channelAt m) m _ _ _ _ o (c .loop-point .kept .point) (c .slot-of .ensures ∙ ap (slot (c .loop-point .point)) o) (omega (arith, o, c .slot-of .ensures))
           (toZ-ofZ w64 (c .from .result) (search needs) ∙ (c .from .ensures ∙ ap pos total)) (c .loop-channel .inv .1),
     )
@@ -90,12 +95,12 @@ returns-in-Err g c =
     let h = c .args .hour in
     let p = c .loop-point .point in
     let m = c .loop-channel .channel-index in
+    let i = c .loop-interval .interval in
     let e = c .in-Err .refusal in
-    let i = 12 * h + c .loop-k .k in
-    let faulty : refuses (numberOf e) (placeOf e) ≡ needed (at p (channelAt m) i) p (channelAt m) i
-    = subst (λ x. refuses (numberOf e) (placeOf e) ≡ needed (at p (channelAt m) (12 * x + c .loop-k .k)) p (channelAt m) (12 * x + c .loop-k .k)) (c .from-start .ensures) (c .in-Err .ensures tt) in
+    let start = c .intervals-of-start .ensures .0 in
+    let end = c .intervals-of-start .ensures .1 in
     let read = first-fault at h (length (c .args .hours .now) / 2) p (channelAt m) m i (numberOf e) (placeOf e) (c .args .hours .now) (c .loop-channel .hours)
-    (ordinal-at m (c .loop-channel-test .taken)) (c .loop-point .kept .point, c .loop-point-test .taken, omega arith, omega arith) (sym faulty) (c .loop-k .inv .0)
+    (ordinal-at m (c .loop-channel-test .taken)) (c .loop-point .kept .point, c .loop-point-test .taken, omega arith, omega arith) (sym (c .in-Err .ensures tt)) (c .loop-interval .inv .0)
     (written-on at h p m _ _ _ (c .loop-point .inv .1) (c .loop-channel .inv .1)) in
     record { tests = judged at h _ _ _ (refuses (numberOf e) (placeOf e)) read; read = read }
 
