@@ -6,7 +6,7 @@ ghost use lib.ListN.{length, getD};
 ghost use Rattle.books.specs.Bytes.{long, word};
 
 // The number in the two bytes at `at`.
-pub fn two_bytes(bytes: &[u8], at: usize) -> u16
+pub(crate) fn two_bytes(bytes: &[u8], at: usize) -> u16
     requires { ⌜ at + 2 ≤ length (now bytes) ⌝ }
     ensures { λ r. ⌜ r ≡ word (now (bytes .entry)) at ⌝ }
 {
@@ -14,7 +14,7 @@ pub fn two_bytes(bytes: &[u8], at: usize) -> u16
 }
 
 // The number in the four bytes at `at`.
-pub fn four_bytes(bytes: &[u8], at: usize) -> u32
+pub(crate) fn four_bytes(bytes: &[u8], at: usize) -> u32
     requires { ⌜ at + 4 ≤ length (now bytes) ⌝ }
     ensures { λ r. ⌜ r ≡ long (now (bytes .entry)) at ⌝ }
 {
@@ -22,7 +22,7 @@ pub fn four_bytes(bytes: &[u8], at: usize) -> u32
 }
 
 // Writes a number into the four bytes at `at`.
-pub fn put_four_bytes(bytes: &mut [u8], at: usize, value: u32)
+pub(crate) fn put_four_bytes(bytes: &mut [u8], at: usize, value: u32)
     requires { ⌜ at + 4 ≤ length (now bytes) ⌝ }
     ensures here { λ _. ⌜ long (now (bytes .exit)) at ≡ value ⌝ }
     ensures others { λ _. ⌜ ((k : ℕ) → (k < at) ⊎ (at + 4 ≤ k) → getD (now (bytes .exit)) k 0 ≡ getD (now (bytes .entry)) k 0) ⌝ }

@@ -12,7 +12,7 @@ const HEADER: usize = 12;
 
 // How many points and intervals a book has, and at which bytes the blocks of the two channels begin.
 #[derive(Clone, Copy)]
-pub struct Header {
+pub(crate) struct Header {
     points: u16,
     intervals: u16,
     c: u32,
@@ -42,7 +42,7 @@ fn blocks_lawful(len: usize, points: u16, intervals: u16, c: u32, g: u32) -> boo
 
 impl Header {
     // The header of a book that keeps every rule.
-    pub fn read(bytes: &[u8]) -> Option<Header>
+    pub(crate) fn read(bytes: &[u8]) -> Option<Header>
         ensures { λ r. ⌜ r ≡ lawfulHeader (now (bytes .entry)) ⌝ }
     {
         if bytes.len() < HEADER {
@@ -66,7 +66,7 @@ impl Header {
     }
 
     // Whether a book with this header has the place.
-    pub fn holds(self, point: usize, interval: u32) -> bool
+    pub(crate) fn holds(self, point: usize, interval: u32) -> bool
         ensures { λ r. ⌜ r ≡ holds self point interval ⌝ }
     {
         point >= 1 && point <= usize::from(self.points) && interval < u32::from(self.intervals)
@@ -83,7 +83,7 @@ impl Header {
     }
 
     // At which byte the amount of a place begins.
-    pub fn offset(self, point: usize, channel: Channel, interval: u32) -> usize
+    pub(crate) fn offset(self, point: usize, channel: Channel, interval: u32) -> usize
         requires { ⌜ holds self point interval ≡ true ⌝ }
         ensures { λ r. ⌜ r ≡ offset self point channel interval ⌝ }
     {

@@ -30,7 +30,7 @@ fn entry_of(number: u32) -> Option<u32>
 }
 
 // What a book has at a place.
-pub fn amount_at(
+pub(crate) fn amount_at(
     bytes: &[u8],
     header: Option<Header>,
     point: usize,
@@ -101,7 +101,7 @@ fn put_amount(
 }
 
 // Corrects a place of a book.
-pub fn correct_at(
+pub(crate) fn correct_at(
     bytes: &mut [u8],
     point: usize,
     channel: Channel,
