@@ -11,13 +11,15 @@ use Rattle.std.proofs.shelf.Tests.{cases-lt}
 use Rattle.std.proofs.shelf.Ways.{tells}
 use Rattle.std.specs.declared.option.Option.{Option}
 use Rattle.std.specs.declared.option.Option.the-variants.{Some, None}
+use Rattle.terms.specs.Channels.{placeAt}
 use Rattle.terms.specs.declared.channels.Channel.{Channel}
 use Rattle.terms.specs.declared.channels.Channel.the-variants.{C, G}
+use Rattle.terms.specs.declared.channels.Place.{Place}
 use Rattle.readings.specs.Places.{limit, Corrected}
-use Rattle.books.specs.Books.{headerOf, lawful, lawfulHeader, holds, offset, entry, amountBy, bookAt}
+use Rattle.books.specs.Books.{headerOf, lawful, lawfulHeader, holds, blockOf, offset, entry, amountBy, bookAt}
 use Rattle.books.specs.Bytes.{word, long}
 use Rattle.books.specs.declared.headers.Header.{Header}
-use Rattle.books.proofs.Rules.{Rules, Place, place, was-read}
+use Rattle.books.proofs.Rules.{Rules, Inside, inside-by, was-read}
 
 -- equal bytes make equal numbers
 word-same : (xs bs : List ℕ) (o : ℕ) → ((j : ℕ) → o ≤ j → j < o + 2 → getD xs j 0 ≡ getD bs j 0) → word xs o ≡ word bs o
@@ -34,58 +36,76 @@ long-same xs bs o e =
     let d = e (o + 3) (omega arith) (omega arith) in
     omega arith
 
-within-block : (b x y : ℕ) → (x ≡ y → ⊥) → (b + 4 * x + 4 ≤ b + 4 * y) ⊎ (b + 4 * y + 4 ≤ b + 4 * x)
-within-block b x y ne = elim (cases-lt x y) [ inl lt ↦ inl (omega arith) | inr ge ↦ inr (grind arith) ]
+-- places with the same parts are the same
+same-place : (q p : Place) → q .point ≡ p .point → q .channel ≡ p .channel → q .interval ≡ p .interval → q ≡ p
+same-place q p a b e =
+    ap (λ n. placeAt n (q .channel) (q .interval)) a
+    ∙ (ap (λ c. placeAt (p .point) c (q .interval)) b ∙ ap (λ i. placeAt (p .point) (p .channel) i) e)
 
 module _ (len : ℕ) (x : Header) (r : Rules len x) where
   -- the place of an amount in its block
-  index-lt : (p i : ℕ) → Place x p i → (p - 1) * x .intervals + i < x .points * x .intervals
-  index-lt p i h =
+  abbrev index : Place → ℕ
+  index p = (p .point - 1) * x .intervals + p .interval
+
+  index-lt : (p : Place) → Inside x p → index p < x .points * x .intervals
+  index-lt p h =
       let a = h .from-one in
       let b = h .to-n in
-      digits-lt {q = p - 1} {m = x .points} {r = i} {c = x .intervals} (omega arith) (h .below)
+      digits-lt {q = p .point - 1} {m = x .points} {r = p .interval} {c = x .intervals} (omega arith) (h .below)
 
-  offset-low : (p : ℕ) (c : Channel) (i : ℕ) → 12 ≤ offset x p c i
-  offset-low p C i = let a = r .low-c in omega arith
-  offset-low p G i = let a = r .low-g in omega arith
+  block-low : (c : Channel) → 12 ≤ blockOf x c
+  block-low C = r .low-c
+  block-low G = r .low-g
 
-  offset-fits : (p : ℕ) (c : Channel) (i : ℕ) → Place x p i → offset x p c i + 4 ≤ len
-  offset-fits p C i h = let a = r .high-c in omega (arith, index-lt p i h)
-  offset-fits p G i h = let a = r .high-g in omega (arith, index-lt p i h)
+  block-fits : (c : Channel) → blockOf x c + 4 * (x .points * x .intervals) ≤ len
+  block-fits C = r .high-c
+  block-fits G = r .high-g
 
-  -- two places of one block have the same index only if they are the same
-  index-same : (p i q j : ℕ) → Place x p i → Place x q j → (q - 1) * x .intervals + j ≡ (p - 1) * x .intervals + i → (q ≡ p) × (j ≡ i)
-  index-same p i q j h k e =
-      let a : q - 1 ≡ p - 1 = sym (digits-div (q - 1) (k .below)) ∙ (ap (λ n. n / x .intervals) e ∙ digits-div (p - 1) (h .below)) in
-      let b : j ≡ i = sym (digits-mod (q - 1) (k .below)) ∙ (ap (λ n. n % x .intervals) e ∙ digits-mod (p - 1) (h .below)) in
+  -- two places of one block have the same index only if they have the same point and interval
+  index-same : (p q : Place) → Inside x p → Inside x q → index q ≡ index p → (q .point ≡ p .point) × (q .interval ≡ p .interval)
+  index-same p q h k e =
+      let a : q .point - 1 ≡ p .point - 1 = sym (digits-div (q .point - 1) (k .below)) ∙ (ap (λ n. n / x .intervals) e ∙ digits-div (p .point - 1) (h .below)) in
+      let b : q .interval ≡ p .interval = sym (digits-mod (q .point - 1) (k .below)) ∙ (ap (λ n. n % x .intervals) e ∙ digits-mod (p .point - 1) (h .below)) in
       let y = h .from-one in
       let z = k .from-one in
       (omega arith, b)
 
+  within-block : (c : Channel) (p q : Place) → Inside x p → Inside x q → ((q .point ≡ p .point) × (q .interval ≡ p .interval) → ⊥)
+      → (blockOf x c + 4 * index q + 4 ≤ blockOf x c + 4 * index p) ⊎ (blockOf x c + 4 * index p + 4 ≤ blockOf x c + 4 * index q)
+  within-block c p q h k ne = elim (cases-lt (index q) (index p)) [
+    | inl lt ↦ inl (omega arith)
+    | inr ge ↦ elim (cases-lt (index p) (index q)) [ inl lt ↦ inr (omega arith) | inr le ↦ absurd (ne (index-same p q h k (omega arith))) ]
+  ]
+
   -- amounts of other places share no byte with that of a place
-  offset-apart : (p : ℕ) (c : Channel) (i q : ℕ) (d : Channel) (j : ℕ) → Place x p i → Place x q j → ((q ≡ p) × (d ≡ c) × (j ≡ i) → ⊥)
-      → (offset x q d j + 4 ≤ offset x p c i) ⊎ (offset x p c i + 4 ≤ offset x q d j)
-  offset-apart p C i q C j h k ne = within-block (x .c) _ _ (λ e. let s = index-same p i q j h k e in ne (s .0, refl, s .1))
-  offset-apart p G i q G j h k ne = within-block (x .g) _ _ (λ e. let s = index-same p i q j h k e in ne (s .0, refl, s .1))
-  offset-apart p C i q G j h k ne = elim (r .apart) [ inl a ↦ inr (omega (arith, index-lt p i h, index-lt q j k)) | inr b ↦ inl (omega (arith, index-lt p i h, index-lt q j k)) ]
-  offset-apart p G i q C j h k ne = elim (r .apart) [ inl a ↦ inl (omega (arith, index-lt p i h, index-lt q j k)) | inr b ↦ inr (omega (arith, index-lt p i h, index-lt q j k)) ]
+  apart-on : (c d : Channel) (p q : Place) → Inside x p → Inside x q → ((q .point ≡ p .point) × (d ≡ c) × (q .interval ≡ p .interval) → ⊥)
+      → (blockOf x d + 4 * index q + 4 ≤ blockOf x c + 4 * index p) ⊎ (blockOf x c + 4 * index p + 4 ≤ blockOf x d + 4 * index q)
+  apart-on C C p q h k ne = within-block C p q h k (λ s. ne (s .0, refl, s .1))
+  apart-on G G p q h k ne = within-block G p q h k (λ s. ne (s .0, refl, s .1))
+  apart-on C G p q h k ne = elim (r .apart) [ inl a ↦ inr (omega (arith, index-lt p h, index-lt q k)) | inr b ↦ inl (omega (arith, index-lt p h, index-lt q k)) ]
+  apart-on G C p q h k ne = elim (r .apart) [ inl a ↦ inl (omega (arith, index-lt p h, index-lt q k)) | inr b ↦ inr (omega (arith, index-lt p h, index-lt q k)) ]
+
+  offset-apart : (p q : Place) → Inside x p → Inside x q → (q ≡ p → ⊥) → (offset x q + 4 ≤ offset x p) ⊎ (offset x p + 4 ≤ offset x q)
+  offset-apart p q h k ne = apart-on (p .channel) (q .channel) p q h k (λ s. ne (same-place q p (s .0) (s .1) (s .2)))
 
 -- the amount of a place lies inside the bytes
-pub offset-inside : (bs : List ℕ) (x : Header) (p : ℕ) (c : Channel) (i : ℕ) → Some x ≡ lawfulHeader bs → holds x p i ≡ true → offset x p c i + 4 ≤ length bs
-offset-inside bs x p c i read inside = offset-fits (length bs) x (was-read bs x read .1) p c i (place x p i inside)
+pub offset-inside : (bs : List ℕ) (x : Header) (p : Place) → Some x ≡ lawfulHeader bs → holds x p ≡ true → offset x p + 4 ≤ length bs
+offset-inside bs x p read inside =
+    let r = was-read bs x read .1 in
+    omega (arith, block-fits (length bs) x r (p .channel), index-lt (length bs) x r p (inside-by x p inside))
 
 entry-some : (v : ℕ) → v ≤ limit → entry v ≡ Some v
 entry-some v h = grind (arith, tells)
 
 -- a book with an amount v written at a place is xs
-module _ (xs bs : List ℕ) (x : Header) (p : ℕ) (c : Channel) (i v : ℕ) (read : Some x ≡ lawfulHeader bs) (inside : holds x p i ≡ true)
-    (len : length xs ≡ length bs) (here : long xs (offset x p c i) ≡ v)
-    (others : (k : ℕ) → (k < offset x p c i) ⊎ (offset x p c i + 4 ≤ k) → getD xs k 0 ≡ getD bs k 0) where
+module _ (xs bs : List ℕ) (x : Header) (p : Place) (v : ℕ) (read : Some x ≡ lawfulHeader bs) (inside : holds x p ≡ true)
+    (len : length xs ≡ length bs) (here : long xs (offset x p) ≡ v)
+    (others : (k : ℕ) → (k < offset x p) ⊎ (offset x p + 4 ≤ k) → getD xs k 0 ≡ getD bs k 0) where
   rules-of : Rules (length bs) x
   rules-of = was-read bs x read .1
 
   head-same : (k : ℕ) → k < 12 → getD xs k 0 ≡ getD bs k 0
-  head-same k low = others k (inl (omega (arith, offset-low (length bs) x rules-of p c i)))
+  head-same k low = others k (inl (omega (arith, block-low (length bs) x rules-of (p .channel))))
 
   header-same : headerOf xs ≡ headerOf bs
   header-same =
@@ -101,21 +121,23 @@ module _ (xs bs : List ℕ) (x : Header) (p : ℕ) (c : Channel) (i v : ℕ) (re
       ∙ ap (λ h. cond (lawful (length bs) h) (Some h) None) header-same
 
   -- what the two books have at a place, by the one header
-  before-is : (q : ℕ) (d : Channel) (j : ℕ) → bookAt bs q d j ≡ amountBy bs (Some x) q d j
-  before-is q d j = ap (λ h. amountBy bs h q d j) (sym read)
+  before-is : (q : Place) → bookAt bs q ≡ amountBy bs (Some x) q
+  unfolding bookAt
+  before-is q = ap (λ h. amountBy bs h q) (sym read)
 
-  after-is : (q : ℕ) (d : Channel) (j : ℕ) → bookAt xs q d j ≡ amountBy xs (Some x) q d j
-  after-is q d j = ap (λ h. amountBy xs h q d j) (header-kept ∙ sym read)
+  after-is : (q : Place) → bookAt xs q ≡ amountBy xs (Some x) q
+  unfolding bookAt
+  after-is q = ap (λ h. amountBy xs h q) (header-kept ∙ sym read)
 
-  other-same : (q : ℕ) (d : Channel) (j : ℕ) → ((q ≡ p) × (d ≡ c) × (j ≡ i) → ⊥) → (t : Bool) → holds x q j ≡ t
-      → cond t (entry (long xs (offset x q d j))) None ≡ cond t (entry (long bs (offset x q d j))) None
-  other-same q d j ne true h =
-      ap entry (long-same xs bs (offset x q d j) (λ k low high. others k
-      (elim (offset-apart (length bs) x rules-of p c i q d j (place x p i inside) (place x q j h) ne) [ inl before ↦ inl (omega arith) | inr after ↦ inr (omega arith) ])))
-  other-same q d j ne false h = refl
+  other-same : (q : Place) → (q ≡ p → ⊥) → (t : Bool) → holds x q ≡ t
+      → cond t (entry (long xs (offset x q))) None ≡ cond t (entry (long bs (offset x q))) None
+  other-same q ne true h =
+      ap entry (long-same xs bs (offset x q) (λ k low high. others k
+      (elim (offset-apart (length bs) x rules-of p q (inside-by x p inside) (inside-by x q h) ne) [ inl before ↦ inl (omega arith) | inr after ↦ inr (omega arith) ])))
+  other-same q ne false h = refl
 
-  pub corrected : v ≤ limit → Corrected (bookAt bs) (bookAt xs) p c i v
+  pub corrected : v ≤ limit → Corrected (bookAt bs) (bookAt xs) p v
   corrected low = record {
-    here = after-is p c i ∙ (ap (λ t. cond t (entry (long xs (offset x p c i))) None) inside ∙ (ap entry here ∙ entry-some v low));
-    others = λ q d j ne. after-is q d j ∙ (other-same q d j ne (holds x q j) refl ∙ sym (before-is q d j));
+    here = after-is p ∙ (ap (λ t. cond t (entry (long xs (offset x p))) None) inside ∙ (ap entry here ∙ entry-some v low));
+    others = λ q ne. after-is q ∙ (other-same q ne (holds x q) refl ∙ sym (before-is q));
   }

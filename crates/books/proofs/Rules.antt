@@ -11,6 +11,7 @@ use Rattle.std.proofs.shelf.Ways.{tells}
 use Rattle.std.specs.declared.option.Option.{Option}
 use Rattle.std.specs.declared.option.Option.the-variants.{Some, None}
 use Rattle.books.specs.Books.{headerOf, lawful, wellFormed, lawfulHeader, holds}
+use Rattle.terms.specs.declared.channels.Place.{Place}
 use Rattle.books.specs.declared.headers.Header.{Header}
 
 pub record Rules (len : ℕ) (x : Header) : Type 0 where
@@ -32,13 +33,13 @@ rules len x e = record {
 }
 
 -- a place of a book
-pub record Place (x : Header) (p i : ℕ) : Type 0 where
-  pub from-one : 1 ≤ p
-  pub to-n : p ≤ x .points
-  pub below : i < x .intervals
+pub record Inside (x : Header) (p : Place) : Type 0 where
+  pub from-one : 1 ≤ p .point
+  pub to-n : p .point ≤ x .points
+  pub below : p .interval < x .intervals
 
-pub place : (x : Header) (p i : ℕ) → holds x p i ≡ true → Place x p i
-place x p i e = record { from-one = grind (arith, tells); to-n = grind (arith, tells); below = grind (arith, tells) }
+pub inside-by : (x : Header) (p : Place) → holds x p ≡ true → Inside x p
+inside-by x p e = record { from-one = grind (arith, tells); to-n = grind (arith, tells); below = grind (arith, tells) }
 
 -- a header that was read is the book's, and the book keeps the rules
 pub was-read : (bs : List ℕ) (x : Header) → Some x ≡ lawfulHeader bs → (x ≡ headerOf bs) × Rules (length bs) x

@@ -10,6 +10,8 @@ use Rattle.std.specs.declared.option.Option.the-variants.{Some, None}
 use Rattle.terms.specs.Answers.{Answer, gives, tested}
 use Rattle.terms.specs.declared.channels.Channel.{Channel}
 use Rattle.terms.specs.declared.channels.Channel.the-variants.{C, G}
+use Rattle.terms.specs.declared.channels.Place.{Place}
+use Rattle.readings.specs.Places.{Readings}
 use Rattle.books.specs.Bytes.{word, long}
 use Rattle.books.specs.declared.headers.Header.{Header}
 
@@ -39,38 +41,38 @@ abbrev pub lawfulHeader : List ℕ → Option Header
 lawfulHeader bs = cond (wellFormed bs) (Some (headerOf bs)) None
 
 -- the points 1 to n and the intervals 0 to t - 1
-abbrev pub holds : Header → ℕ → ℕ → Bool
-holds x p i = leb 1 p && leb p (x .points) && ltb i (x .intervals)
+abbrev pub holds : Header → Place → Bool
+holds x p = leb 1 (p .point) && leb (p .point) (x .points) && ltb (p .interval) (x .intervals)
 
 abbrev pub blockOf : Header → Channel → ℕ
 blockOf x C = x .c
 blockOf x G = x .g
 
 -- where the amount of a place begins: in the channel's block, point after point
-abbrev pub offset : Header → ℕ → Channel → ℕ → ℕ
-offset x p c i = blockOf x c + 4 * ((p - 1) * x .intervals + i)
+abbrev pub offset : Header → Place → ℕ
+offset x p = blockOf x (p .channel) + 4 * ((p .point - 1) * x .intervals + p .interval)
 
 -- FFFFFFFF means nothing
 abbrev pub entry : ℕ → Option ℕ
 entry v = cond (eqb v 0xffffffff) None (Some v)
 
 -- the places of a book with this header; where a rule is broken there is none
-abbrev pub placesBy : Option Header → ℕ → ℕ → Bool
-placesBy None p i = false
-placesBy (Some x) p i = holds x p i
+abbrev pub placesBy : Option Header → Place → Bool
+placesBy None p = false
+placesBy (Some x) p = holds x p
 
 -- what the bytes of a book with this header have at a place
-abbrev pub amountBy : List ℕ → Option Header → ℕ → Channel → ℕ → Option ℕ
-amountBy bs None p c i = None
-amountBy bs (Some x) p c i = cond (holds x p i) (entry (long bs (offset x p c i))) None
+abbrev pub amountBy : List ℕ → Option Header → Place → Option ℕ
+amountBy bs None p = None
+amountBy bs (Some x) p = cond (holds x p) (entry (long bs (offset x p))) None
 
 -- the places of a book
-abbrev pub extent : List ℕ → ℕ → ℕ → Bool
-extent bs p i = placesBy (lawfulHeader bs) p i
+abbrev pub extent : List ℕ → Place → Bool
+extent bs p = placesBy (lawfulHeader bs) p
 
 -- what a book has at a place
-abbrev pub bookAt : List ℕ → ℕ → Channel → ℕ → Option ℕ
-bookAt bs p c i = amountBy bs (lawfulHeader bs) p c i
+unfoldable pub bookAt : List ℕ → Readings
+bookAt bs p = amountBy bs (lawfulHeader bs) p
 
 -- the book check
 abbrev pub bookTests : List ℕ → Answer (Unit {0})

@@ -6,6 +6,7 @@ ghost use Rattle.books.specs.Books.{blockOf, blocksLawful, countsLawful, holds
 use crate::bytes::four_bytes;
 use crate::bytes::two_bytes;
 use terms::Channel;
+use terms::Place;
 
 // Bytes of the header.
 const HEADER: usize = 12;
@@ -66,10 +67,12 @@ impl Header {
     }
 
     // Whether a book with this header has the place.
-    pub(crate) fn holds(self, point: usize, interval: u32) -> bool
-        ensures { λ r. ⌜ r ≡ holds self point interval ⌝ }
+    pub(crate) fn holds(self, place: Place) -> bool
+        ensures { λ r. ⌜ r ≡ holds self place ⌝ }
     {
-        point >= 1 && point <= usize::from(self.points) && interval < u32::from(self.intervals)
+        place.point >= 1
+            && place.point <= usize::from(self.points)
+            && place.interval < u32::from(self.intervals)
     }
 
     // At which byte the block of a channel begins.
@@ -83,11 +86,11 @@ impl Header {
     }
 
     // At which byte the amount of a place begins.
-    pub(crate) fn offset(self, point: usize, channel: Channel, interval: u32) -> usize
-        requires { ⌜ holds self point interval ≡ true ⌝ }
-        ensures { λ r. ⌜ r ≡ offset self point channel interval ⌝ }
+    pub(crate) fn offset(self, place: Place) -> usize
+        requires { ⌜ holds self place ≡ true ⌝ }
+        ensures { λ r. ⌜ r ≡ offset self place ⌝ }
     {
-        let row = (point - 1) * usize::from(self.intervals);
-        self.block(channel) as usize + 4 * (row + interval as usize)
+        let row = (place.point - 1) * usize::from(self.intervals);
+        self.block(place.channel) as usize + 4 * (row + place.interval as usize)
     }
 }

@@ -40,6 +40,7 @@ use terms::Channel;
 use terms::Mwh;
 use terms::MwhDisplay;
 use terms::NetOfAmounts;
+use terms::Place;
 use terms::Refusal;
 use terms::RefusalDisplay;
 
@@ -75,12 +76,10 @@ fn filled(heap: Global, n: u32, t: u32, amount: u32) -> Result<Vec<u8>, AllocErr
     Ok(bytes)
 }
 
-// An amount at a place.
+// An amount for a place.
 #[derive(Clone, Copy)]
 struct Change {
-    point: usize,
-    channel: Channel,
-    interval: u32,
+    place: Place,
     amount: u32,
 }
 
@@ -94,23 +93,23 @@ fn read_change(piece: &str) -> Change {
     };
     let interval = number(words.next());
     let amount = number(words.next());
-    Change {
+    let place = Place {
         point,
         channel,
         interval,
-        amount,
-    }
+    };
+    Change { place, amount }
 }
 
 // Writes an amount into the bytes of a book of n points and t intervals.
 fn write_raw(bytes: &mut Vec<u8>, n: u32, t: u32, change: Change) {
     let t = t as usize;
-    let row = change.point.saturating_sub(1).saturating_mul(t);
-    let skipped = match change.channel {
+    let row = change.place.point.saturating_sub(1).saturating_mul(t);
+    let skipped = match change.place.channel {
         Channel::C => 0,
         Channel::G => t.saturating_mul(n as usize),
     };
-    let count = row.saturating_add(change.interval as usize)
+    let count = row.saturating_add(change.place.interval as usize)
         .saturating_add(skipped);
     let mut place = count.saturating_mul(4).saturating_add(12);
     for byte in change.amount.to_be_bytes() {
@@ -124,26 +123,12 @@ fn write_raw(bytes: &mut Vec<u8>, n: u32, t: u32, change: Change) {
 // A refusal with its whole place.
 fn refused(heap: Global, refusal: Refusal) -> Result<String, AllocError> {
     match refusal {
-        Refusal::OutsideExtent {
-            channel,
-            interval,
-            ..
-        }
-        | Refusal::Missing {
-            channel,
-            interval,
-            ..
-        }
-        | Refusal::TooLarge {
-            channel,
-            interval,
-            ..
-        } => {
-            let letter = match channel {
-                Channel::C => "C",
-                Channel::G => "G",
-            };
-            format!(heap, "{refusal} {letter} {interval}")
+        Refusal::OutsideExtent(place) | Refusal::Missing(place) | Refusal::TooLarge(place) => {
+            let interval = place.interval;
+            match place.channel {
+                Channel::C => format!(heap, "{refusal} C {interval}"),
+                Channel::G => format!(heap, "{refusal} G {interval}"),
+            }
         }
         Refusal::ProfileTooLarge { hour, .. } => format!(heap, "{refusal} hour {hour}"),
         _ => format!(heap, "{refusal}"),
@@ -156,17 +141,11 @@ fn corrected<S: Correctable>(
     source: &mut S,
     change: Change,
 ) -> Result<String, AllocError> {
-    let Change {
-        point,
-        channel,
-        interval,
-        amount,
-    } = change;
-    let answer = match source.correct(point, channel, interval, amount) {
+    let answer = match source.correct(change.place, change.amount) {
         Ok(()) => format!(heap, "ok")?,
         Err(refusal) => refused(heap, refusal)?,
     };
-    match source.reading(point, channel, interval) {
+    match source.reading(change.place) {
         Some(reading) => format!(heap, "{answer} {reading}; "),
         None => format!(heap, "{answer} nothing; "),
     }
@@ -228,7 +207,12 @@ fn checked(heap: Global, len: usize, mut bytes: Vec<u8>) -> Result<String, Alloc
         Ok(()) => format!(heap, "{code} kept")?,
         Err(refusal) => format!(heap, "{code} {refusal}")?,
     };
-    match Book::new(bytes.as_slice()).reading(1, Channel::C, 0) {
+    let first = Place {
+        point: 1,
+        channel: Channel::C,
+        interval: 0,
+    };
+    match Book::new(bytes.as_slice()).reading(first) {
         Some(reading) => format!(heap, "{answer}, {reading}"),
         None => format!(heap, "{answer}, nothing"),
     }
@@ -239,7 +223,12 @@ fn spread(heap: Global, profile: &Profile, point: usize, hour: u16) -> Result<St
     let mut text = String::new(heap);
     for k in 0..12 {
         let interval = 12 * u32::from(hour) + k;
-        let part = profile.reading(point, Channel::C, interval).unwrap_or(0);
+        let place = Place {
+            point,
+            channel: Channel::C,
+            interval,
+        };
+        let part = profile.reading(place).unwrap_or(0);
         let item = format!(heap, "{part} ")?;
         text.push_str(item.as_str())?;
     }

@@ -12,15 +12,16 @@ use Rattle.std.specs.declared.option.Option.the-variants.{Some, None}
 use lib.Seq.{getD-set-same, getD-set-other}
 use Rattle.std.proofs.shelf.Tests.{cases-lt, cases-eq}
 use Rattle.terms.specs.Answers.{refuses}
-use Rattle.terms.specs.Channels.{ordinal}
+use Rattle.terms.specs.Channels.{ordinal, placeAt}
 use Rattle.terms.specs.declared.channels.Channel.{Channel}
 use Rattle.terms.specs.declared.channels.Channel.the-variants.{C, G}
-use Rattle.readings.specs.Hours.{InHour, Earlier, amountOf, sumFrom, hourSum, slot, Written, Integrated, FirstFault}
+use Rattle.terms.specs.declared.channels.Place.{Place}
+use Rattle.readings.specs.Hours.{InHour, Before, amountOf, sumFrom, hourSum, slot, Written, Integrated, FirstFault}
 use Rattle.readings.specs.Places.{Readings, limit, needed, Usable}
 
 -- every place of the hour that comes before point p, channel m, interval i is usable
 abbrev pub Passed : Readings → ℕ → ℕ → ℕ → ℕ → Type 0
-Passed at h p m i = (q : ℕ) (d : Channel) (j : ℕ) → 1 ≤ q → 12 * h ≤ j → j < 12 * h + 12 → Earlier q (ordinal d) j p m i → Usable (at q d j)
+Passed at h p m i = (q : Place) → 1 ≤ q .point → 12 * h ≤ q .interval → q .interval < 12 * h + 12 → Before q p m i → Usable (at q)
 
 pub ordinal-below : (c : Channel) → ordinal c < 2
 ordinal-below C = omega arith
@@ -38,50 +39,56 @@ ordinal-at zero h = refl
 ordinal-at (suc zero) h = refl
 ordinal-at (suc (suc m)) h = absurd (omega arith)
 
+-- a place by its three parts
+place-is : (q : Place) (p : ℕ) (c : Channel) (i : ℕ) → q .point ≡ p → q .channel ≡ c → q .interval ≡ i → q ≡ placeAt p c i
+place-is q p c i a b e =
+    ap (λ x. placeAt x (q .channel) (q .interval)) a ∙ (ap (λ x. placeAt p x (q .interval)) b ∙ ap (λ x. placeAt p c x) e)
+
 usable-amount : (o : Option ℕ) → Usable o → amountOf o ≤ limit
 usable-amount None u = absurd u
 usable-amount (Some a) u = u
 
 module _ (at : Readings) (h : ℕ) where
   pub passed-none : Passed at h 1 0 0
-  passed-none q d j a b e (inl lt) = absurd (omega arith)
-  passed-none q d j a b e (inr (same, inl lt)) = absurd (omega arith)
-  passed-none q d j a b e (inr (same, inr (like, lt))) = absurd (omega arith)
+  passed-none q a b e (inl lt) = absurd (omega arith)
+  passed-none q a b e (inr (same, inl lt)) = absurd (omega arith)
+  passed-none q a b e (inr (same, inr (like, lt))) = absurd (omega arith)
 
   pub passed-start : (p m i : ℕ) → i ≤ 12 * h → Passed at h p m 0 → Passed at h p m i
-  passed-start p m i low old q d j a b e (inl lt) = old q d j a b e (inl lt)
-  passed-start p m i low old q d j a b e (inr (same, inl lt)) = old q d j a b e (inr (same, inl lt))
-  passed-start p m i low old q d j a b e (inr (same, inr (like, lt))) = absurd (omega arith)
+  passed-start p m i low old q a b e (inl lt) = old q a b e (inl lt)
+  passed-start p m i low old q a b e (inr (same, inl lt)) = old q a b e (inr (same, inl lt))
+  passed-start p m i low old q a b e (inr (same, inr (like, lt))) = absurd (omega arith)
 
-  pub passed-place : (p : ℕ) (c : Channel) (m i n : ℕ) → ordinal c ≡ m → n ≡ i + 1 → Usable (at p c i) → Passed at h p m i → Passed at h p m n
-  passed-place p c m i n o next new old q d j a b e (inl lt) = old q d j a b e (inl lt)
-  passed-place p c m i n o next new old q d j a b e (inr (same, inl lt)) = old q d j a b e (inr (same, inl lt))
-  passed-place p c m i n o next new old q d j a b e (inr (same, inr (like, lt))) = go (cases-lt j i)
+  pub passed-place : (p : ℕ) (c : Channel) (m i n : ℕ) → ordinal c ≡ m → n ≡ i + 1 → Usable (at (placeAt p c i)) → Passed at h p m i → Passed at h p m n
+  passed-place p c m i n o next new old q a b e (inl lt) = old q a b e (inl lt)
+  passed-place p c m i n o next new old q a b e (inr (same, inl lt)) = old q a b e (inr (same, inl lt))
+  passed-place p c m i n o next new old q a b e (inr (same, inr (like, lt))) = go (cases-lt (q .interval) i)
     where
-      go : (j < i) ⊎ (i ≤ j) → Usable (at q d j)
-      go (inl less) = old q d j a b e (inr (same, inr (like, less)))
+      go : (q .interval < i) ⊎ (i ≤ q .interval) → Usable (at q)
+      go (inl less) = old q a b e (inr (same, inr (like, less)))
       go (inr more) =
-          let jj : j ≡ i = omega arith in
-          let dd : d ≡ c = ordinal-same d c (like ∙ sym o) in
-          rw (same, dd, jj) new
+          let jj : q .interval ≡ i = omega arith in
+          let dd : q .channel ≡ c = ordinal-same (q .channel) c (like ∙ sym o) in
+          let qq : placeAt p c i ≡ q = sym (place-is q p c i same dd jj) in
+          subst (λ x. Usable (at x)) qq new
 
   pub passed-channel : (p m i : ℕ) → 12 * h + 12 ≤ i → Passed at h p m i → Passed at h p (m + 1) 0
-  passed-channel p m i high old q d j a b e (inl lt) = old q d j a b e (inl lt)
-  passed-channel p m i high old q d j a b e (inr (same, inl lt)) = go (cases-lt (ordinal d) m)
+  passed-channel p m i high old q a b e (inl lt) = old q a b e (inl lt)
+  passed-channel p m i high old q a b e (inr (same, inl lt)) = go (cases-lt (ordinal (q .channel)) m)
     where
-      go : (ordinal d < m) ⊎ (m ≤ ordinal d) → Usable (at q d j)
-      go (inl less) = old q d j a b e (inr (same, inl less))
-      go (inr more) = old q d j a b e (inr (same, inr (omega arith, omega arith)))
-  passed-channel p m i high old q d j a b e (inr (same, inr (like, lt))) = absurd (omega arith)
+      go : (ordinal (q .channel) < m) ⊎ (m ≤ ordinal (q .channel)) → Usable (at q)
+      go (inl less) = old q a b e (inr (same, inl less))
+      go (inr more) = old q a b e (inr (same, inr (omega arith, omega arith)))
+  passed-channel p m i high old q a b e (inr (same, inr (like, lt))) = absurd (omega arith)
 
   pub passed-point : (p : ℕ) → Passed at h p 2 0 → Passed at h (p + 1) 0 0
-  passed-point p old q d j a b e (inl lt) = go (cases-lt q p)
+  passed-point p old q a b e (inl lt) = go (cases-lt (q .point) p)
     where
-      go : (q < p) ⊎ (p ≤ q) → Usable (at q d j)
-      go (inl less) = old q d j a b e (inl less)
-      go (inr more) = old q d j a b e (inr (omega arith, inl (ordinal-below d)))
-  passed-point p old q d j a b e (inr (same, inl lt)) = absurd (omega arith)
-  passed-point p old q d j a b e (inr (same, inr (like, lt))) = absurd (omega arith)
+      go : (q .point < p) ⊎ (p ≤ q .point) → Usable (at q)
+      go (inl less) = old q a b e (inl less)
+      go (inr more) = old q a b e (inr (omega arith, inl (ordinal-below (q .channel))))
+  passed-point p old q a b e (inr (same, inl lt)) = absurd (omega arith)
+  passed-point p old q a b e (inr (same, inr (like, lt))) = absurd (omega arith)
 
   pub written-none : (hours : List ℤ) → Written at h hours hours 1 0
   written-none hours = record { sums = none; rest = λ k _. refl }
@@ -126,30 +133,28 @@ module _ (at : Readings) (h : ℕ) where
       sums q d a (inr (same, lt)) = absurd (omega arith)
 
   -- k usable amounts are at most k times the limit
-  sum-bound : (p : ℕ) (c : Channel) (i k : ℕ) → ((j : ℕ) → i ≤ j → j < i + k → Usable (at p c j)) → sumFrom at p c i k ≤ 15000000 * k
+  sum-bound : (p : ℕ) (c : Channel) (i k : ℕ) → ((j : ℕ) → i ≤ j → j < i + k → Usable (at (placeAt p c j))) → sumFrom at p c i k ≤ 15000000 * k
   unfolding sumFrom
   sum-bound p c i zero u = omega arith
   sum-bound p c i (suc k) u =
       let before : sumFrom at p c i k ≤ 15000000 * k = sum-bound p c i k (λ j low high. u j low (omega arith)) in
-      let here : amountOf (at p c (i + k)) ≤ limit = usable-amount (at p c (i + k)) (u (i + k) (omega arith) (omega arith)) in
+      let here : amountOf (at (placeAt p c (i + k))) ≤ limit = usable-amount (at (placeAt p c (i + k))) (u (i + k) (omega arith) (omega arith)) in
       omega arith
 
   pub all-read : (n p : ℕ) (old hours : List ℤ) → p ≡ n + 1 → Passed at h p 0 0 → Written at h old hours p 0 → Integrated at n h old hours
   all-read n p old hours over past w = record {
-    usable = λ q d j r. past q d j (r .0) (r .2) (r .3) (inl (omega arith));
-    bounded = λ q d low high. sum-bound q d (12 * h) 12 (λ j from to. past q d j low from to (inl (omega arith)));
+    usable = λ q r. past q (r .0) (r .2) (r .3) (inl (omega arith));
+    bounded = λ q d low high. sum-bound q d (12 * h) 12 (λ j from to. past (placeAt q d j) low from to (inl (omega arith)));
     written = subst (λ x. Written at h old hours x 0) over w;
   }
 
-  pub first-fault : (n p : ℕ) (c : Channel) (m i number : ℕ) (place : List ℕ) (old hours : List ℤ) → ordinal c ≡ m → InHour n h p i
-      → needed (at p c i) p c i ≡ refuses number place → Passed at h p m i → Written at h old hours p m → FirstFault at n h old hours number place
+  pub first-fault : (n p : ℕ) (c : Channel) (m i number : ℕ) (place : List ℕ) (old hours : List ℤ) → ordinal c ≡ m → InHour n h (placeAt p c i)
+      → needed (at (placeAt p c i)) (placeAt p c i) ≡ refuses number place → Passed at h p m i → Written at h old hours p m → FirstFault at n h old hours number place
   first-fault n p c m i number place old hours o within faulty past w = record {
-    point = p;
-    channel = c;
-    interval = i;
+    fault = placeAt p c i;
     within = within;
     faulty = faulty;
-    first = λ q d j r before. past q d j (r .0) (r .2) (r .3) (subst (λ x. Earlier q (ordinal d) j p x i) o before);
+    first = λ q r before. past q (r .0) (r .2) (r .3) (subst (λ x. Before q p x i) o before);
     written = subst (λ x. Written at h old hours p x) (sym o) w;
   }
 
@@ -158,11 +163,11 @@ module _ (at : Readings) (h : ℕ) where
   unfolding sumFrom
   sum-none p c i e = let none : i - 12 * h ≡ 0 = omega arith in rw none refl
 
-  pub sum-more : (p : ℕ) (c : Channel) (i a s : ℕ) → 12 * h ≤ i → at p c i ≡ Some a → s ≡ sumFrom at p c (12 * h) (i - 12 * h)
+  pub sum-more : (p : ℕ) (c : Channel) (i a s : ℕ) → 12 * h ≤ i → at (placeAt p c i) ≡ Some a → s ≡ sumFrom at p c (12 * h) (i - 12 * h)
       → s + a ≡ sumFrom at p c (12 * h) (i + 1 - 12 * h)
   unfolding sumFrom
   sum-more p c i a s low is before =
       let next : i + 1 - 12 * h ≡ suc (i - 12 * h) = omega arith in
       let here : 12 * h + (i - 12 * h) ≡ i = omega arith in
-      let new : amountOf (at p c (12 * h + (i - 12 * h))) ≡ a = ap (λ j. amountOf (at p c j)) here ∙ ap amountOf is in
+      let new : amountOf (at (placeAt p c (12 * h + (i - 12 * h)))) ≡ a = ap (λ j. amountOf (at (placeAt p c j))) here ∙ ap amountOf is in
       rw next (omega arith)

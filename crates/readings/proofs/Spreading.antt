@@ -11,6 +11,7 @@ use lib.ListN.{getD}
 use Rattle.std.proofs.shelf.Tests.{eq-eqb}
 use Rattle.std.specs.declared.option.Option.{Option}
 use Rattle.std.specs.declared.option.Option.the-variants.{Some, None}
+use Rattle.terms.specs.Channels.{placeAt}
 use Rattle.terms.specs.declared.channels.Channel.{Channel}
 use Rattle.terms.specs.declared.channels.Channel.the-variants.{C, G}
 use Rattle.readings.specs.Places.{limit, Usable}
@@ -18,7 +19,7 @@ use Rattle.readings.specs.Hours.{amountOf, sumFrom, hourSum}
 use Rattle.readings.specs.Profiles.{hourLimit, part, onChannel, profileAt, Within, Spread}
 
 -- what a profile has at its own point
-own : (point : ℕ) (amounts : List ℕ) (c : Channel) (i : ℕ) → profileAt point amounts point c i ≡ Some (onChannel c (part (getD amounts (i / 12 % 24) 0) (i % 12)))
+own : (point : ℕ) (amounts : List ℕ) (c : Channel) (i : ℕ) → profileAt point amounts (placeAt point c i) ≡ Some (onChannel c (part (getD amounts (i / 12 % 24) 0) (i % 12)))
 own point amounts c i = let e : eqb point point ≡ true = eq-eqb point point refl in rw e refl
 
 -- one more part
@@ -33,12 +34,12 @@ module _ (point : ℕ) (amounts : List ℕ) (h : ℕ) where
       let a = getD amounts (h % 24) 0 in
       let hh : (12 * h + k) / 12 ≡ h = omega arith in
       let kk : (12 * h + k) % 12 ≡ k = omega arith in
-      let here : amountOf (profileAt point amounts point C (12 * h + k)) ≡ part a k =
+      let here : amountOf (profileAt point amounts (placeAt point C (12 * h + k))) ≡ part a k =
       ap amountOf (own point amounts C (12 * h + k)) ∙ (ap (λ x. part (getD amounts (x % 24) 0) ((12 * h + k) % 12)) hh ∙ ap (λ x. part a x) kk) in
       let before : sumFrom (profileAt point amounts) point C (12 * h) k ≡ k * a / 12 = so-far k (omega arith) in
       let both : k * a / 12 + part a k ≡ (k + 1) * a / 12 = next a k in
       let one : (k + 1) * a / 12 ≡ suc k * a / 12 = ap (λ x. x * a / 12) (add-one k) in
-      ap (λ x. x + amountOf (profileAt point amounts point C (12 * h + k))) before ∙ (ap (λ x. k * a / 12 + x) here ∙ (both ∙ one))
+      ap (λ x. x + amountOf (profileAt point amounts (placeAt point C (12 * h + k)))) before ∙ (ap (λ x. k * a / 12 + x) here ∙ (both ∙ one))
 
 small : (a k : ℕ) → a ≤ hourLimit → part a k ≤ limit
 small a k le = let e : (k + 1) * a ≡ k * a + a = add-mul k 1 a ∙ ap (λ x. k * a + x) (one-mul a) in omega arith
@@ -53,7 +54,7 @@ unfolding sumFrom
 none point amounts i zero = refl
 none point amounts i (suc k) =
     let before : sumFrom (profileAt point amounts) point G i k ≡ 0 = none point amounts i k in
-    let here : amountOf (profileAt point amounts point G (i + k)) ≡ 0 = ap amountOf (own point amounts G (i + k)) in
+    let here : amountOf (profileAt point amounts (placeAt point G (i + k))) ≡ 0 = ap amountOf (own point amounts G (i + k)) in
     omega arith
 
 pub spread : (point : ℕ) (amounts : List ℕ) → Within amounts → Spread point amounts

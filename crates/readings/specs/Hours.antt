@@ -11,9 +11,10 @@ use lib.ListN.{length, getD}
 use Rattle.std.specs.declared.option.Option.{Option}
 use Rattle.std.specs.declared.option.Option.the-variants.{Some, None}
 use Rattle.terms.specs.Answers.{Answer, gives, refuses, _thereafter_, inOrder}
-use Rattle.terms.specs.Channels.{ordinal}
+use Rattle.terms.specs.Channels.{ordinal, placeAt}
 use Rattle.terms.specs.declared.channels.Channel.{Channel}
 use Rattle.terms.specs.declared.channels.Channel.the-variants.{C, G}
+use Rattle.terms.specs.declared.channels.Place.{Place}
 use Rattle.readings.specs.Places.{Readings, needed, Usable}
 
 -- the amount, 0 for nothing
@@ -24,7 +25,7 @@ amountOf (Some a) = a
 -- the sum of k amounts from interval i on
 unfoldable pub sumFrom : Readings → ℕ → Channel → ℕ → ℕ → ℕ
 sumFrom at p c i zero = 0
-sumFrom at p c i (suc k) = sumFrom at p c i k + amountOf (at p c (i + k))
+sumFrom at p c i (suc k) = sumFrom at p c i k + amountOf (at (placeAt p c (i + k)))
 
 -- the hour value of a point on a channel
 abbrev pub hourSum : Readings → ℕ → Channel → ℕ → ℕ
@@ -32,7 +33,7 @@ hourSum at p c h = sumFrom at p c (12 * h) 12
 
 -- The tests of an hour: the points 1 to n in order, C before G, the twelve intervals in order.
 abbrev pub channelTests : Readings → ℕ → ℕ → Channel → Answer (Unit {0})
-channelTests at h p c = inOrder (λ k. needed (at p c (12 * h + k)) p c (12 * h + k)) 12
+channelTests at h p c = inOrder (λ k. needed (at (placeAt p c (12 * h + k))) (placeAt p c (12 * h + k))) 12
 
 abbrev pub pointTests : Readings → ℕ → ℕ → Answer (Unit {0})
 pointTests at h p = channelTests at h p C thereafter channelTests at h p G
@@ -41,12 +42,16 @@ unfoldable pub hourTests : Readings → ℕ → ℕ → Answer (Unit {0})
 hourTests at n h = inOrder (λ k. pointTests at h (k + 1)) n
 
 -- the points 1 to n, and the twelve intervals of hour h
-abbrev pub InHour : ℕ → ℕ → ℕ → ℕ → Type 0
-InHour n h q j = (1 ≤ q) × (q ≤ n) × (12 * h ≤ j) × (j < 12 * h + 12)
+abbrev pub InHour : ℕ → ℕ → Place → Type 0
+InHour n h q = (1 ≤ q .point) × (q .point ≤ n) × (12 * h ≤ q .interval) × (q .interval < 12 * h + 12)
 
 -- the order of places: point, channel (by its ordinal), interval
-abbrev pub Earlier : ℕ → ℕ → ℕ → ℕ → ℕ → ℕ → Type 0
-Earlier q d j p c i = (q < p) ⊎ ((q ≡ p) × ((d < c) ⊎ ((d ≡ c) × (j < i))))
+abbrev pub Before : Place → ℕ → ℕ → ℕ → Type 0
+Before q p c i =
+    (q .point < p) ⊎ ((q .point ≡ p) × ((ordinal (q .channel) < c) ⊎ ((ordinal (q .channel) ≡ c) × (q .interval < i))))
+
+abbrev pub Earlier : Place → Place → Type 0
+Earlier q p = Before q (p .point) (ordinal (p .channel)) (p .interval)
 
 -- where an hour value stands among lent numbers: point after point, C and then G
 abbrev pub slot : ℕ → ℕ → ℕ
@@ -67,19 +72,17 @@ hourMost = 180000000
 
 -- every place of the hour is usable, so that no hour value is above its limit, and all are written
 pub record Integrated (at : Readings) (n h : ℕ) (old hours : List ℤ) : Type 0 where
-  pub usable : (q : ℕ) (d : Channel) (j : ℕ) → InHour n h q j → Usable (at q d j)
+  pub usable : (q : Place) → InHour n h q → Usable (at q)
   pub bounded : (q : ℕ) (d : Channel) → 1 ≤ q → q ≤ n → hourSum at q d h ≤ hourMost
   pub written : Written at h old hours (n + 1) 0
 
 -- refusal m names the first place of the hour that is not usable; the hour values before it are written
 pub record FirstFault (at : Readings) (n h : ℕ) (old hours : List ℤ) (m : ℕ) (place : List ℕ) : Type 0 where
-  pub point : ℕ
-  pub channel : Channel
-  pub interval : ℕ
-  pub within : InHour n h point interval
-  pub faulty : needed (at point channel interval) point channel interval ≡ refuses m place
-  pub first : (q : ℕ) (d : Channel) (j : ℕ) → InHour n h q j → Earlier q (ordinal d) j point (ordinal channel) interval → Usable (at q d j)
-  pub written : Written at h old hours point (ordinal channel)
+  pub fault : Place
+  pub within : InHour n h fault
+  pub faulty : needed (at fault) fault ≡ refuses m place
+  pub first : (q : Place) → InHour n h q → Earlier q fault → Usable (at q)
+  pub written : Written at h old hours (fault .point) (ordinal (fault .channel))
 
 -- what the integration of hour h answers, and what the memory holds then, of which it was old before
 abbrev pub HourRead : Readings → ℕ → ℕ → List ℤ → List ℤ → Answer (Unit {0}) → Type 0

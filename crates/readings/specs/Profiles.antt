@@ -7,10 +7,11 @@ use lib.Dec.{eqb}
 use lib.ListN.{getD}
 use Rattle.std.specs.declared.option.Option.{Option}
 use Rattle.std.specs.declared.option.Option.the-variants.{Some, None}
+use Rattle.terms.specs.Channels.{placeAt}
 use Rattle.terms.specs.declared.channels.Channel.{Channel}
 use Rattle.terms.specs.declared.channels.Channel.the-variants.{C, G}
 use Rattle.readings.specs.Hours.{hourSum}
-use Rattle.readings.specs.Places.{Usable}
+use Rattle.readings.specs.Places.{Readings, Usable}
 
 -- the limit of an hourly amount, in Wh
 abbrev pub hourLimit : ℕ
@@ -26,9 +27,9 @@ onChannel C x = x
 onChannel G x = 0
 
 -- what a profile has at a place
-abbrev pub profileAt : ℕ → List ℕ → ℕ → Channel → ℕ → Option ℕ
-profileAt point amounts p c i =
-    cond (eqb p point) (Some (onChannel c (part (getD amounts (i / 12 % 24) 0) (i % 12)))) None
+abbrev pub profileAt : ℕ → List ℕ → Readings
+profileAt point amounts p =
+    cond (eqb (p .point) point) (Some (onChannel (p .channel) (part (getD amounts (p .interval / 12 % 24) 0) (p .interval % 12)))) None
 
 abbrev pub Within : List ℕ → Type 0
 Within amounts = (h : ℕ) → h < 24 → getD amounts h 0 ≤ hourLimit
@@ -43,4 +44,4 @@ pub record FirstOver (amounts : List ℕ) (h : ℕ) : Type 0 where
 pub record Spread (point : ℕ) (amounts : List ℕ) : Type 0 where
   pub onC : (h : ℕ) → hourSum (profileAt point amounts) point C h ≡ getD amounts (h % 24) 0
   pub onG : (h : ℕ) → hourSum (profileAt point amounts) point G h ≡ 0
-  pub usable : (c : Channel) (i : ℕ) → Usable (profileAt point amounts point c i)
+  pub usable : (c : Channel) (i : ℕ) → Usable (profileAt point amounts (placeAt point c i))

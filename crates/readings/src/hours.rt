@@ -11,33 +11,17 @@ use crate::sources::INTERVAL_LIMIT;
 use crate::sources::Source;
 use terms::Amount;
 use terms::Channel;
+use terms::Place;
 use terms::Refusal;
 
 // The amount at a place where one is needed.
-fn needed_amount<S: Source>(
-    source: &S,
-    point: usize,
-    channel: Channel,
-    interval: u32,
-) -> Result<u32, Refusal>
-    ensures { λ r. ⌜ answered r ≡ needed (S·Source .at (now (source .entry)) point channel interval) point channel interval ⌝ }
+fn needed_amount<S: Source>(source: &S, place: Place) -> Result<u32, Refusal>
+    ensures { λ r. ⌜ answered r ≡ needed (S·Source .at (now (source .entry)) place) place ⌝ }
 {
-    match source.reading(point, channel, interval) {
-        None => Err(Refusal::Missing {
-            point,
-            channel,
-            interval,
-        }),
-        Some(amount) => {
-            if amount > INTERVAL_LIMIT {
-                return Err(Refusal::TooLarge {
-                    point,
-                    channel,
-                    interval,
-                });
-            }
-            Ok(amount)
-        }
+    match source.reading(place) {
+        None => Err(Refusal::Missing(place)),
+        Some(amount) if amount > INTERVAL_LIMIT => Err(Refusal::TooLarge(place)),
+        Some(amount) => Ok(amount),
     }
 }
 
@@ -72,7 +56,12 @@ pub fn integrate_hour<S: Source>(source: &S, hour: u16, hours: &mut [i64]) -> Re
             for channel in [Channel::C, Channel::G] {
                 let mut sum: u32 = 0;
                 for interval in start..end {
-                    match needed_amount(source, point, channel, interval) {
+                    let place = Place {
+                        point,
+                        channel,
+                        interval,
+                    };
+                    match needed_amount(source, place) {
                         Ok(amount) => sum += amount,
                         Err(refusal) => break 'places Err(refusal),
                     }

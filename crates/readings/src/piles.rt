@@ -3,7 +3,7 @@ ghost use mathlib.Core.Path.{_≡_};
 ghost use Rattle.readings.specs.Places.{orElse};
 use crate::sources::Correctable;
 use crate::sources::Source;
-use terms::Channel;
+use terms::Place;
 use terms::Refusal;
 
 // Two sources, one on top of the other: it has main's amount, or backup's where main has nothing.
@@ -14,12 +14,12 @@ pub struct Pile<M, B> {
 }
 
 pub impl<M: Source, B: Source> Source for Pile<M, B> as PileSource {
-    ghost at = { λ s p c i. orElse (M·Source .at (s .main) p c i) (B·Source .at (s .backup) p c i) };
+    ghost at = { λ s p. orElse (M·Source .at (s .main) p) (B·Source .at (s .backup) p) };
 
-    fn reading(&self, point: usize, channel: Channel, interval: u32) -> Option<u32> {
-        match self.main.reading(point, channel, interval) {
+    fn reading(&self, place: Place) -> Option<u32> {
+        match self.main.reading(place) {
             Some(amount) => Some(amount),
-            None => self.backup.reading(point, channel, interval),
+            None => self.backup.reading(place),
         }
     }
 }
@@ -30,13 +30,7 @@ pub impl<M: Correctable, B: Source> Correctable for Pile<M, B> as PileCorrectabl
 
     ghost tied = { λ s t. M·Correctable .tied (s .main) (t .main) × (s .backup ≡ t .backup) };
 
-    fn correct(
-        &mut self,
-        point: usize,
-        channel: Channel,
-        interval: u32,
-        amount: u32,
-    ) -> Result<(), Refusal> {
-        self.main.correct(point, channel, interval, amount)
+    fn correct(&mut self, place: Place, amount: u32) -> Result<(), Refusal> {
+        self.main.correct(place, amount)
     }
 }

@@ -5,43 +5,36 @@ ghost use Prim.Native.Nat.{ℕ};
 ghost use Rattle.std.specs.Results.{isErr, isOk};
 ghost use Rattle.std.specs.declared.option.Option.{Option};
 ghost use Rattle.terms.specs.Answers.{answered};
-ghost use Rattle.terms.specs.declared.channels.Channel.{Channel};
+ghost use Rattle.terms.specs.declared.channels.Place.{Place};
 ghost use Rattle.readings.specs.Places.{correctionTests, Corrected};
-use terms::Channel;
+use terms::Place;
 use terms::Refusal;
 
 // The largest amount of one interval, in Wh.
 pub const INTERVAL_LIMIT: u32 = 15_000_000;
 
-// A source of readings. Points are numbered from 1 and intervals, of five minutes, from 0. Where a
-// reading came, it has an amount in Wh, and otherwise nothing.
+// A source of readings. At a place where a reading came it has an amount in Wh, and otherwise nothing.
 pub trait Source {
-    // What the source has at each point, channel and interval.
-    ghost at: { Self → ℕ → Channel → ℕ → Option ℕ };
+    // What the source has at each place.
+    ghost at: { Self → Place → Option ℕ };
 
-    fn reading(&self, point: usize, channel: Channel, interval: u32) -> Option<u32>
-        ensures { λ r. ⌜ r ≡ at (now (self .entry)) point channel interval ⌝ };
+    fn reading(&self, place: Place) -> Option<u32>
+        ensures { λ r. ⌜ r ≡ at (now (self .entry)) place ⌝ };
 }
 
 // A source that also takes corrections.
 pub trait Correctable: Source {
     // The places that it accepts.
-    ghost extent: { Self → ℕ → Channel → ℕ → Bool };
+    ghost extent: { Self → Place → Bool };
 
     // That two states stand over the same lent memory, so that whoever lent it knows what it holds.
     ghost tied: { Self → Self → Type 0 };
 
     // Puts an amount at a place of the extent.
-    fn correct(
-        &mut self,
-        point: usize,
-        channel: Channel,
-        interval: u32,
-        amount: u32,
-    ) -> Result<(), Refusal>
-        ensures answer { λ r. ⌜ answered r ≡ correctionTests (extent (now (self .entry)) point channel interval) point channel interval amount ⌝ }
-        ensures places { λ r. ⌜ (isOk r ≡ true → Corrected (Self·Source .at (now (self .entry))) (Self·Source .at (now (self .exit))) point channel interval amount) ⌝ }
+    fn correct(&mut self, place: Place, amount: u32) -> Result<(), Refusal>
+        ensures answer { λ r. ⌜ answered r ≡ correctionTests (extent (now (self .entry)) place) place amount ⌝ }
+        ensures places { λ r. ⌜ (isOk r ≡ true → Corrected (Self·Source .at (now (self .entry))) (Self·Source .at (now (self .exit))) place amount) ⌝ }
         ensures refused { λ r. ⌜ (isErr r ≡ true → now (self .exit) ≡ now (self .entry)) ⌝ }
-        ensures stays { λ _. ⌜ ((q : ℕ) (d : Channel) (j : ℕ) → extent (now (self .exit)) q d j ≡ extent (now (self .entry)) q d j) ⌝ }
+        ensures stays { λ _. ⌜ ((q : Place) → extent (now (self .exit)) q ≡ extent (now (self .entry)) q) ⌝ }
         ensures lender { λ _. ⌜ tied (now (self .entry)) (now (self .exit)) ⌝ };
 }

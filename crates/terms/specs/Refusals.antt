@@ -3,7 +3,7 @@ use mathlib.Core.List.{List, [], _∷_, _++_}
 use Prim.Native.Nat.{ℕ}
 use Rattle.std.specs.Written.{decimal}
 use Rattle.terms.specs.Channels.{ordinal}
-use Rattle.terms.specs.declared.channels.Channel.{Channel}
+use Rattle.terms.specs.declared.channels.Place.{Place}
 use Rattle.terms.specs.declared.refusals.Refusal.{Refusal}
 use Rattle.terms.specs.declared.refusals.Refusal.the-variants.{UnknownClass, TooManyPoints, WrongParent, LimitPassed, NotReady, BrokenBook, OutsideExtent, Missing, TooLarge, ProfileTooLarge, BadText}
 
@@ -14,15 +14,15 @@ numberOf (WrongParent p) = 3
 numberOf (LimitPassed p) = 4
 numberOf (NotReady m) = 5
 numberOf BrokenBook = 6
-numberOf (OutsideExtent p c i) = 7
-numberOf (Missing p c i) = 8
-numberOf (TooLarge p c i) = 9
+numberOf (OutsideExtent p) = 7
+numberOf (Missing p) = 8
+numberOf (TooLarge p) = 9
 numberOf (ProfileTooLarge p h) = 9
 numberOf (BadText l) = 19
 
--- the place of a reading: point, channel (C is 0 and G is 1), interval
-abbrev pub placeIn : ℕ → Channel → ℕ → List ℕ
-placeIn p c i = p ∷ ordinal c ∷ i ∷ []
+-- the numbers of a place: point, channel (C is 0 and G is 1), interval
+abbrev pub numbersOf : Place → List ℕ
+numbersOf p = p .point ∷ ordinal (p .channel) ∷ p .interval ∷ []
 
 abbrev pub placeOf : Refusal → List ℕ
 placeOf (UnknownClass p) = p ∷ []
@@ -31,9 +31,9 @@ placeOf (WrongParent p) = p ∷ []
 placeOf (LimitPassed p) = p ∷ []
 placeOf (NotReady m) = m ∷ []
 placeOf BrokenBook = []
-placeOf (OutsideExtent p c i) = placeIn p c i
-placeOf (Missing p c i) = placeIn p c i
-placeOf (TooLarge p c i) = placeIn p c i
+placeOf (OutsideExtent p) = numbersOf p
+placeOf (Missing p) = numbersOf p
+placeOf (TooLarge p) = numbersOf p
 placeOf (ProfileTooLarge p h) = p ∷ h ∷ []
 placeOf (BadText l) = l ∷ []
 

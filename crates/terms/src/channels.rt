@@ -14,6 +14,15 @@ pub enum Channel {
     G,
 }
 
+// Where a reading stands: a point, numbered from 1, a channel, and an interval of five minutes, numbered
+// from 0.
+#[derive(Clone, Copy, PartialEq, Eq)]
+pub struct Place {
+    pub point: usize,
+    pub channel: Channel,
+    pub interval: u32,
+}
+
 // An amount on channel C, in whole watt-hours.
 #[derive(Clone, Copy, PartialEq, Eq)]
 pub struct AmountC(i64);

@@ -2,64 +2,37 @@
 ghost use mathlib.Core.Path.{_≡_};
 ghost use Rattle.std.specs.declared.option.Option.the-variants.{Some};
 ghost use Rattle.terms.specs.Refusals.{firstOf, numberOf, placeOf, refusalText};
-use crate::channels::Channel;
-use crate::channels::ChannelEq;
-use crate::channels::ChannelPartialEq;
+use crate::channels::Place;
+use crate::channels::PlaceEq;
+use crate::channels::PlacePartialEq;
 use std::fmt;
 
 // Each case holds the values of its place. A refused call has changed nothing of what it was given.
 #[derive(Clone, Copy, PartialEq, Eq)]
 pub enum Refusal {
     // A point entered with a letter that stands for no class.
-    UnknownClass {
-        point: usize,
-    },
+    UnknownClass { point: usize },
     // A point entered behind 128 others.
-    TooManyPoints {
-        point: usize,
-    },
+    TooManyPoints { point: usize },
     // A point whose parent is not an earlier point of a class that it may name.
-    WrongParent {
-        point: usize,
-    },
+    WrongParent { point: usize },
     // A point that passes the limit on roots, on members of a network, on networks or on their depth.
-    LimitPassed {
-        point: usize,
-    },
+    LimitPassed { point: usize },
     // A draft that was to go into service without a root, or with a network that has no member:
     // the monitor of the first such network, 0 for the main one and where there is no root.
-    NotReady {
-        network: usize,
-    },
+    NotReady { network: usize },
     // A book whose header or length breaks a rule.
     BrokenBook,
     // A correction at a place outside the extent of its source.
-    OutsideExtent {
-        point: usize,
-        channel: Channel,
-        interval: u32,
-    },
+    OutsideExtent(Place),
     // Nothing at a place whose amount is needed.
-    Missing {
-        point: usize,
-        channel: Channel,
-        interval: u32,
-    },
+    Missing(Place),
     // An amount above the limit of one interval.
-    TooLarge {
-        point: usize,
-        channel: Channel,
-        interval: u32,
-    },
+    TooLarge(Place),
     // An hourly amount of a profile above its limit.
-    ProfileTooLarge {
-        point: usize,
-        hour: usize,
-    },
+    ProfileTooLarge { point: usize, hour: usize },
     // A line of a tree text that has another shape; line 0 is a text that is too long.
-    BadText {
-        line: usize,
-    },
+    BadText { line: usize },
 }
 
 impl Refusal {
@@ -74,9 +47,9 @@ impl Refusal {
             Refusal::LimitPassed { .. } => 4,
             Refusal::NotReady { .. } => 5,
             Refusal::BrokenBook => 6,
-            Refusal::OutsideExtent { .. } => 7,
-            Refusal::Missing { .. } => 8,
-            Refusal::TooLarge { .. } | Refusal::ProfileTooLarge { .. } => 9,
+            Refusal::OutsideExtent(_) => 7,
+            Refusal::Missing(_) => 8,
+            Refusal::TooLarge(_) | Refusal::ProfileTooLarge { .. } => 9,
             Refusal::BadText { .. } => 19,
         }
     }
@@ -90,10 +63,9 @@ impl Refusal {
             | Refusal::TooManyPoints { point }
             | Refusal::WrongParent { point }
             | Refusal::LimitPassed { point }
-            | Refusal::OutsideExtent { point, .. }
-            | Refusal::Missing { point, .. }
-            | Refusal::TooLarge { point, .. }
             | Refusal::ProfileTooLarge { point, .. } => point,
+            Refusal::OutsideExtent(place) | Refusal::Missing(place) | Refusal::TooLarge(place) =>
+                place.point,
             Refusal::NotReady { network } => network,
             Refusal::BrokenBook => 0,
             Refusal::BadText { line } => line,

@@ -7,7 +7,7 @@ use crate::books::WorkingBook;
 use crate::headers::Header;
 use crate::places::amount_at;
 use readings::Source;
-use terms::Channel;
+use terms::Place;
 
 impl<'a> Book<'a> {
     pub fn new(bytes: &'a [u8]) -> Book<'a>
@@ -30,21 +30,15 @@ impl<'a> WorkingBook<'a> {
 pub impl<'a> Source for Book<'a> as BookSource {
     ghost at = { λ s. bookAt (held (s .bytes)) };
 
-    fn reading(&self, point: usize, channel: Channel, interval: u32) -> Option<u32> {
-        amount_at(self.bytes, self.header, point, channel, interval)
+    fn reading(&self, place: Place) -> Option<u32> {
+        amount_at(self.bytes, self.header, place)
     }
 }
 
 pub impl<'a> Source for WorkingBook<'a> as WorkingBookSource {
     ghost at = { λ s. bookAt (held (s .bytes)) };
 
-    fn reading(&self, point: usize, channel: Channel, interval: u32) -> Option<u32> {
-        amount_at(
-            self.bytes,
-            Header::read(self.bytes),
-            point,
-            channel,
-            interval,
-        )
+    fn reading(&self, place: Place) -> Option<u32> {
+        amount_at(self.bytes, Header::read(self.bytes), place)
     }
 }

@@ -8,6 +8,7 @@ ghost use Rattle.readings.specs.Profiles.{FirstOver, hourLimit, part, profileA
 use crate::profiles::Profile;
 use crate::sources::Source;
 use terms::Channel;
+use terms::Place;
 use terms::Refusal;
 
 // The largest amount of one hour, in Wh.
@@ -41,14 +42,14 @@ fn part_of(amount: u32, k: u32) -> u32
 pub impl Source for Profile as ProfileSource {
     ghost at = { λ s. profileAt (s .point) (s .amounts) };
 
-    fn reading(&self, point: usize, channel: Channel, interval: u32) -> Option<u32> {
-        if point != self.point {
+    fn reading(&self, place: Place) -> Option<u32> {
+        if place.point != self.point {
             return None;
         }
-        match channel {
+        match place.channel {
             Channel::C => {
-                let amount = self.amounts[(interval / 12 % 24) as usize];
-                Some(part_of(amount, interval % 12))
+                let amount = self.amounts[(place.interval / 12 % 24) as usize];
+                Some(part_of(amount, place.interval % 12))
             }
             Channel::G => Some(0),
         }

@@ -10,7 +10,7 @@ use Rattle.books.proofs.places.put_amount.Needs as need
 
 pub put-four-bytes-requires : need.put-four-bytes-requires
 put-four-bytes-requires c κs =
-    let fits = offset-inside (c .args .bytes .now) (c .args .header) (c .args .point) (c .args .channel) (c .args .interval) (c .pre .read) (c .pre .inside) in
+    let fits = offset-inside (c .args .bytes .now) (c .args .header) (c .args .place) (c .pre .read) (c .pre .inside) in
     omega (arith, c .offset .ensures)
 
 pub returns : need.returns
@@ -18,13 +18,11 @@ returns c =
     let bs = c .args .bytes .now in
     let xs = c .put-four-bytes .last .bytes in
     let x = c .args .header in
-    let p = c .args .point in
-    let ch = c .args .channel in
-    let i = c .args .interval in
-    let here : long xs (offset x p ch i) ≡ c .args .amount = subst (λ o. long xs o ≡ c .args .amount) (c .offset .ensures) (c .put-four-bytes .ensures .here) in
-    let others : (k : ℕ) → (k < offset x p ch i) ⊎ (offset x p ch i + 4 ≤ k) → getD xs k 0 ≡ getD bs k 0
+    let p = c .args .place in
+    let here : long xs (offset x p) ≡ c .args .amount = subst (λ o. long xs o ≡ c .args .amount) (c .offset .ensures) (c .put-four-bytes .ensures .here) in
+    let others : (k : ℕ) → (k < offset x p) ⊎ (offset x p + 4 ≤ k) → getD xs k 0 ≡ getD bs k 0
     = subst (λ o. (k : ℕ) → (k < o) ⊎ (o + 4 ≤ k) → getD xs k 0 ≡ getD bs k 0) (c .offset .ensures) (c .put-four-bytes .ensures .others) in
     record {
-      places = corrected xs bs x p ch i (c .args .amount) (c .pre .read) (c .pre .inside) (c .put-four-bytes .kept .bytes) here others (c .pre .low);
-      stays = λ q j. ap (λ h. placesBy h q j) (header-kept xs bs x p ch i (c .args .amount) (c .pre .read) (c .pre .inside) (c .put-four-bytes .kept .bytes) here others);
+      places = corrected xs bs x p (c .args .amount) (c .pre .read) (c .pre .inside) (c .put-four-bytes .kept .bytes) here others (c .pre .low);
+      stays = λ q. ap (λ h. placesBy h q) (header-kept xs bs x p (c .args .amount) (c .pre .read) (c .pre .inside) (c .put-four-bytes .kept .bytes) here others);
     }

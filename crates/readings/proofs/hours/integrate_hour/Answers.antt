@@ -10,6 +10,7 @@ use Rattle.std.proofs.shelf.Signed.{toZ-ofZ}
 use Rattle.std.specs.declared.option.Option.{Option}
 use Rattle.std.specs.declared.option.Option.the-variants.{Some}
 use Rattle.terms.specs.Answers.{Answer, gives, refuses}
+use Rattle.terms.specs.Channels.{placeAt}
 use Rattle.terms.specs.Refusals.{numberOf, placeOf}
 use Rattle.terms.specs.declared.channels.Channel.{Channel}
 use Rattle.terms.specs.declared.channels.Channel.the-variants.{C, G}
@@ -38,13 +39,11 @@ loop-interval-holds g c =
 
 -- the place of this turn has the amount, and it is within the limit
 here : (g : given.Over) (c : need.In-Ok g)
-    → (g .S·Source .at (c .args .source .now) (c .loop-point .point) (channelAt (c .loop-channel .channel-index)) (c .loop-interval .interval) ≡ Some (c .in-Ok .amount))
+    → (g .S·Source .at (c .args .source .now) (placeAt (c .loop-point .point) (channelAt (c .loop-channel .channel-index)) (c .loop-interval .interval)) ≡ Some (c .in-Ok .amount))
     × (c .in-Ok .amount ≤ limit)
 here g c =
-    let p = c .loop-point .point in
-    let ch = channelAt (c .loop-channel .channel-index) in
-    let i = c .loop-interval .interval in
-    found (g .S·Source .at (c .args .source .now) p ch i) (c .in-Ok .amount) p ch i (c .in-Ok .ensures tt)
+    let place = placeAt (c .loop-point .point) (channelAt (c .loop-channel .channel-index)) (c .loop-interval .interval) in
+    found (g .S·Source .at (c .args .source .now) place) (c .in-Ok .amount) place (c .in-Ok .ensures tt)
 
 pub add-sum : need.add-sum
 add-sum g c = omega (arith, here g c .1, c .loop-interval .inv .2, c .intervals-of-start .ensures .0, c .intervals-of-start .ensures .1)
