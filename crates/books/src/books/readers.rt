@@ -25,6 +25,13 @@ impl<'a> WorkingBook<'a> {
     {
         WorkingBook { bytes }
     }
+
+    // The book as it is now, for whoever reads much of it: its header is read once.
+    pub fn as_book(&self) -> Book<'_>
+        ensures { λ r. ⌜ now (r .bytes) ≡ held (now (self .entry) .bytes) ⌝ }
+    {
+        Book::new(self.bytes)
+    }
 }
 
 pub impl<'a> Source for Book<'a> as BookSource {
