@@ -11,10 +11,10 @@ use Rattle.std.proofs.shelf.Tests.{cases-lt}
 use Rattle.std.proofs.shelf.Ways.{tells}
 use Rattle.std.specs.declared.option.Option.{Option}
 use Rattle.std.specs.declared.option.Option.the-variants.{Some, None}
-use Rattle.terms.specs.Channels.{placeAt}
 use Rattle.terms.specs.declared.channels.Channel.{Channel}
 use Rattle.terms.specs.declared.channels.Channel.the-variants.{C, G}
 use Rattle.terms.specs.declared.channels.Place.{Place}
+use Rattle.terms.proofs.Places.{same-place}
 use Rattle.readings.specs.Places.{limit, Corrected}
 use Rattle.books.specs.Books.{headerOf, lawful, lawfulHeader, holds, blockOf, offset, entry, amountBy, bookAt}
 use Rattle.books.specs.Bytes.{word, long}
@@ -35,12 +35,6 @@ long-same xs bs o e =
     let c = e (o + 2) (omega arith) (omega arith) in
     let d = e (o + 3) (omega arith) (omega arith) in
     omega arith
-
--- places with the same parts are the same
-same-place : (q p : Place) → q .point ≡ p .point → q .channel ≡ p .channel → q .interval ≡ p .interval → q ≡ p
-same-place q p a b e =
-    ap (λ n. placeAt n (q .channel) (q .interval)) a
-    ∙ (ap (λ c. placeAt (p .point) c (q .interval)) b ∙ ap (λ i. placeAt (p .point) (p .channel) i) e)
 
 module _ (len : ℕ) (x : Header) (r : Rules len x) where
   -- the place of an amount in its block

@@ -16,6 +16,7 @@ use Rattle.terms.specs.Channels.{ordinal, placeAt}
 use Rattle.terms.specs.declared.channels.Channel.{Channel}
 use Rattle.terms.specs.declared.channels.Channel.the-variants.{C, G}
 use Rattle.terms.specs.declared.channels.Place.{Place}
+use Rattle.terms.proofs.Places.{same-place}
 use Rattle.readings.specs.Hours.{InHour, Before, amountOf, sumFrom, hourSum, slot, Written, Integrated, FirstFault}
 use Rattle.readings.specs.Places.{Readings, limit, needed, Usable}
 
@@ -38,11 +39,6 @@ pub ordinal-at : (m : ℕ) → m < 2 → ordinal (getD (C ∷ G ∷ []) m C) ≡
 ordinal-at zero h = refl
 ordinal-at (suc zero) h = refl
 ordinal-at (suc (suc m)) h = absurd (omega arith)
-
--- a place by its three parts
-place-is : (q : Place) (p : ℕ) (c : Channel) (i : ℕ) → q .point ≡ p → q .channel ≡ c → q .interval ≡ i → q ≡ placeAt p c i
-place-is q p c i a b e =
-    ap (λ x. placeAt x (q .channel) (q .interval)) a ∙ (ap (λ x. placeAt p x (q .interval)) b ∙ ap (λ x. placeAt p c x) e)
 
 usable-amount : (o : Option ℕ) → Usable o → amountOf o ≤ limit
 usable-amount None u = absurd u
@@ -69,7 +65,7 @@ module _ (at : Readings) (h : ℕ) where
       go (inr more) =
           let jj : q .interval ≡ i = omega arith in
           let dd : q .channel ≡ c = ordinal-same (q .channel) c (like ∙ sym o) in
-          let qq : placeAt p c i ≡ q = sym (place-is q p c i same dd jj) in
+          let qq : placeAt p c i ≡ q = same-place (placeAt p c i) q (sym same) (sym dd) (sym jj) in
           subst (λ x. Usable (at x)) qq new
 
   pub passed-channel : (p m i : ℕ) → 12 * h + 12 ≤ i → Passed at h p m i → Passed at h p (m + 1) 0

@@ -1,2 +1,3 @@
 pub mod Decimals
 pub mod Orders
+pub mod Places
