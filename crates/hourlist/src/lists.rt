@@ -31,6 +31,9 @@ use treetext::read_tree;
 // The most bytes that the program takes for a book.
 const BOOK_LIMIT: usize = 60_000;
 
+// Two hour values for each of at most 128 points.
+const HOUR_VALUES: usize = 256;
+
 // Checks the book, and puts the hour values of hour 0 into the lent numbers.
 fn first_hour(book: &[u8], hours: &mut [i64]) -> Result<(), Refusal>
     ensures tests { λ r. ⌜ answered r ≡ firstHour (now (book .entry)) (length (now (hours .entry)) / 2) ⌝ }
@@ -98,7 +101,7 @@ pub fn hour_listing(heap: Global, text: &[u8], book: &[u8]) -> Result<String, Al
     let mut tree = Tree::built_in(heap)?;
     match read_tree(heap, text, &mut tree)? {
         Ok(()) => {
-            let mut hours = [0; 256];
+            let mut hours = [0; HOUR_VALUES];
             let used = &mut hours[0..2 * tree.point_count()];
             hour_of(heap, tree.points(), book, used)
         }
