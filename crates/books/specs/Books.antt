@@ -1,10 +1,12 @@
 -- The layout of a book: a header of 12 bytes, and a block of amounts for each channel, wherever the
 -- header puts it.
+use mathlib.Core.Path.{_≡_}
+use mathlib.Core.Logic.{_⊎_}
 use mathlib.Core.Bool.{Bool, false, cond, _&&_, _||_}
 use mathlib.Core.List.{List, []}
-use Prim.Native.Nat.{ℕ, _+_, _-_, _*_, _%_}
+use Prim.Native.Nat.{ℕ, _+_, _-_, _*_, _%_, _<_, _≤_}
 use lib.Dec.{leb, ltb, eqb}
-use lib.ListN.{length}
+use lib.ListN.{length, getD}
 use Rattle.std.specs.declared.option.Option.{Option}
 use Rattle.std.specs.declared.option.Option.the-variants.{Some, None}
 use Rattle.terms.specs.Answers.{Answer, gives, tested}
@@ -73,6 +75,10 @@ extent bs p = placesBy (lawfulHeader bs) p
 -- what a book has at a place
 unfoldable pub bookAt : List ℕ → Readings
 bookAt bs p = amountBy bs (lawfulHeader bs) p
+
+-- every byte but the four of a place is as it was
+pub record KeptBut (p : Place) (before after : List ℕ) : Type 0 where
+  pub bytes : (k : ℕ) → (k < offset (headerOf before) p) ⊎ (offset (headerOf before) p + 4 ≤ k) → getD after k 0 ≡ getD before k 0
 
 -- the book check
 abbrev pub bookTests : List ℕ → Answer (Unit {0})

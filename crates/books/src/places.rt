@@ -8,7 +8,7 @@ ghost use Rattle.std.specs.declared.option.Option.the-variants.{Some};
 ghost use Rattle.terms.specs.Answers.{answered, passing};
 ghost use Rattle.terms.specs.declared.channels.Place.{Place};
 ghost use Rattle.readings.specs.Places.{correctionTests, Corrected, limit};
-ghost use Rattle.books.specs.Books.{bookAt, entry, extent, holds, lawfulHeader, placesBy};
+ghost use Rattle.books.specs.Books.{bookAt, entry, extent, holds, KeptBut, lawfulHeader, placesBy};
 use crate::bytes::four_bytes;
 use crate::bytes::put_four_bytes;
 use crate::headers::Header;
@@ -65,6 +65,7 @@ fn put_amount(bytes: &mut [u8], header: Header, place: Place, amount: u32)
     requires low { ⌜ amount ≤ limit ⌝ }
     ensures places { λ _. ⌜ Corrected (bookAt (now (bytes .entry))) (bookAt (now (bytes .exit))) place amount ⌝ }
     ensures stays { λ _. ⌜ ((q : Place) → extent (now (bytes .exit)) q ≡ extent (now (bytes .entry)) q) ⌝ }
+    ensures kept { λ _. ⌜ KeptBut place (now (bytes .entry)) (now (bytes .exit)) ⌝ }
 {
     put_four_bytes(bytes, header.offset(place), amount);
 }
@@ -75,6 +76,7 @@ pub(crate) fn correct_at(bytes: &mut [u8], place: Place, amount: u32) -> Result<
     ensures places { λ r. ⌜ (isOk r ≡ true → Corrected (bookAt (now (bytes .entry))) (bookAt (now (bytes .exit))) place amount) ⌝ }
     ensures refused { λ r. ⌜ (isErr r ≡ true → now (bytes .exit) ≡ now (bytes .entry)) ⌝ }
     ensures stays { λ _. ⌜ ((q : Place) → extent (now (bytes .exit)) q ≡ extent (now (bytes .entry)) q) ⌝ }
+    ensures kept { λ _. ⌜ KeptBut place (now (bytes .entry)) (now (bytes .exit)) ⌝ }
 {
     let header = admitted(Header::read(bytes), place, amount)?;
     put_amount(bytes, header, place, amount);

@@ -1,5 +1,5 @@
 -- The lines of points.
-use mathlib.Core.Path.{_≡_, refl, sym, ap, subst, _∙_}
+use mathlib.Core.Path.{_≡_, refl, sym, ap, _∙_}
 use mathlib.Core.List.{List, [], _∷_, _++_}
 use Prim.Native.Nat.{ℕ, zero, suc, _+_, _≤_}
 use native.Mathlib.Numerals.{add-one}
@@ -9,7 +9,7 @@ use lib.ListN.{getD, length}
 use Rattle.terms.specs.Answers.{Answer, gives, refuses}
 use Rattle.terms.specs.Refusals.{reportText}
 use Rattle.terms.specs.declared.channels.Channel.the-variants.{C, G}
-use Rattle.points.specs.Points.{noPoint, classOf}
+use Rattle.points.specs.Points.{noPoint}
 use Rattle.points.specs.declared.classes.Point.{Point}
 use Rattle.hourlist.specs.Lists.{linesTo, pointLine, inBook, standing, HoursOf, printedHour}
 

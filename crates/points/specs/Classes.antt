@@ -8,7 +8,6 @@ use Rattle.std.specs.declared.option.Option.{Option}
 use Rattle.std.specs.declared.option.Option.the-variants.{Some, None}
 use Rattle.points.specs.declared.classes.Class.{Class}
 use Rattle.points.specs.declared.classes.Class.the-variants.{Root, Member, Monitor, Embedded}
-use Rattle.points.specs.declared.classes.Point.{Point}
 
 -- R, P, M and E, by their codes
 abbrev pub classBy : ℕ → Option Class
@@ -51,6 +50,3 @@ hosts Embedded = true
 -- a class letter, a space and a parent
 abbrev pub spelled : ℕ → ℕ → List ℕ
 spelled letter parent = letter ∷ 32 ∷ decimal parent
-
-abbrev pub pointText : Point → List ℕ
-pointText q = spelled (letterOf (q .class)) (q .parent)

@@ -2,7 +2,7 @@
 ghost use mathlib.Core.Path.{_≡_};
 ghost use mathlib.Core.List.{[], _∷_};
 ghost use Rattle.std.specs.declared.option.Option.the-variants.{Some};
-ghost use Rattle.points.specs.Classes.{classBy, hosts, isMember, isMonitor, isRoot, letterOf, pointText};
+ghost use Rattle.points.specs.Classes.{classBy, hosts, isMember, isMonitor, isRoot, letterOf};
 use std::fmt;
 
 // The class of a point. A root is where the connection is metered; the roots monitor the main
@@ -78,16 +78,5 @@ pub impl fmt::Display for Class as ClassDisplay {
             Class::Monitor => write!(f, "M"),
             Class::Embedded => write!(f, "E"),
         }
-    }
-}
-
-// The letter of the class and the parent, as in a line of a tree text.
-pub impl fmt::Display for Point as PointDisplay {
-    ghost shown = { λ q. Some (pointText q) };
-
-    fn fmt<W: fmt::Write>(&self, f: &mut fmt::Formatter<W>) -> fmt::Result {
-        let class = self.class;
-        let parent = self.parent;
-        write!(f, "{class} {parent}")
     }
 }

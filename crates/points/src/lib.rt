@@ -7,6 +7,5 @@ pub use classes::ClassDisplay;
 pub use classes::ClassEq;
 pub use classes::ClassPartialEq;
 pub use classes::Point;
-pub use classes::PointDisplay;
 pub use classes::PointEq;
 pub use classes::PointPartialEq;

@@ -7,7 +7,7 @@ use lib.Dec.{leb}
 use Rattle.std.proofs.shelf.Tests.{leb-true}
 use Rattle.std.specs.declared.option.Option.{Option}
 use Rattle.std.specs.declared.option.Option.the-variants.{Some, None}
-use Rattle.terms.specs.Answers.{Answer, gives, refuses, tested}
+use Rattle.terms.specs.Answers.{gives, tested}
 use Rattle.terms.specs.Refusals.{numbersOf}
 use Rattle.terms.specs.declared.channels.Place.{Place}
 use Rattle.readings.specs.Places.{limit, needed}

@@ -1,6 +1,5 @@
 -- How far a reading of an hour has come: every earlier place is usable, and the hour values before are filled in.
 use Prim.Native.Nat.{ℕ, zero, suc, _+_, _-_, _*_, _<_, _≤_}
-use native.Mathlib.Numerals.{add-one}
 use native.Mathlib.Omega.{arith}
 use mathlib.Core.Path.{_≡_, refl, sym, ap, subst, _∙_}
 use mathlib.Core.List.{List, [], _∷_}
@@ -10,7 +9,7 @@ use lib.IntN.{ℤ, pos}
 use Rattle.std.specs.declared.option.Option.{Option}
 use Rattle.std.specs.declared.option.Option.the-variants.{Some, None}
 use lib.Seq.{getD-set-same, getD-set-other}
-use Rattle.std.proofs.shelf.Tests.{cases-lt, cases-eq}
+use Rattle.std.proofs.shelf.Tests.{cases-lt}
 use Rattle.terms.specs.Answers.{refuses}
 use Rattle.terms.specs.Channels.{ordinal, placeAt}
 use Rattle.terms.specs.declared.channels.Channel.{Channel}
@@ -129,11 +128,11 @@ module _ (at : Readings) (h : ℕ) where
       sums q d a (inr (same, lt)) = absurd (omega arith)
 
   -- k usable amounts are at most k times the limit
-  sum-bound : (p : ℕ) (c : Channel) (i k : ℕ) → ((j : ℕ) → i ≤ j → j < i + k → Usable (at (placeAt p c j))) → sumFrom at p c i k ≤ 15000000 * k
+  sum-bound : (p : ℕ) (c : Channel) (i k : ℕ) → ((j : ℕ) → i ≤ j → j < i + k → Usable (at (placeAt p c j))) → sumFrom at p c i k ≤ limit * k
   unfolding sumFrom
   sum-bound p c i zero u = omega arith
   sum-bound p c i (suc k) u =
-      let before : sumFrom at p c i k ≤ 15000000 * k = sum-bound p c i k (λ j low high. u j low (omega arith)) in
+      let before : sumFrom at p c i k ≤ limit * k = sum-bound p c i k (λ j low high. u j low (omega arith)) in
       let here : amountOf (at (placeAt p c (i + k))) ≤ limit = usable-amount (at (placeAt p c (i + k))) (u (i + k) (omega arith) (omega arith)) in
       omega arith
 

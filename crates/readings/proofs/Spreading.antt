@@ -1,21 +1,20 @@
 -- The parts of an hour's amount add up to it, and none is above the limit of an interval.
-use Prim.Native.Nat.{ℕ, zero, suc, _+_, _-_, _*_, _/_, _%_, _<_, _≤_}
+use Prim.Native.Nat.{ℕ, zero, suc, _+_, _-_, _*_, _/_, _%_, _≤_}
 use native.Mathlib.Nat.{zero-mul, add-mul, one-mul}
 use native.Mathlib.Numerals.{add-one}
 use native.Mathlib.Omega.{arith}
 use mathlib.Core.Path.{_≡_, refl, sym, ap, subst, _∙_}
-use mathlib.Core.Bool.{true, cond}
+use mathlib.Core.Bool.{true}
 use mathlib.Core.List.{List}
 use lib.Dec.{eqb}
 use lib.ListN.{getD}
 use Rattle.std.proofs.shelf.Tests.{eq-eqb}
-use Rattle.std.specs.declared.option.Option.{Option}
-use Rattle.std.specs.declared.option.Option.the-variants.{Some, None}
+use Rattle.std.specs.declared.option.Option.the-variants.{Some}
 use Rattle.terms.specs.Channels.{placeAt}
 use Rattle.terms.specs.declared.channels.Channel.{Channel}
 use Rattle.terms.specs.declared.channels.Channel.the-variants.{C, G}
 use Rattle.readings.specs.Places.{limit, Usable}
-use Rattle.readings.specs.Hours.{amountOf, sumFrom, hourSum}
+use Rattle.readings.specs.Hours.{amountOf, sumFrom}
 use Rattle.readings.specs.Profiles.{hourLimit, part, onChannel, profileAt, Within, Spread}
 
 -- what a profile has at its own point

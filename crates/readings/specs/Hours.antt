@@ -15,7 +15,7 @@ use Rattle.terms.specs.Channels.{ordinal, placeAt}
 use Rattle.terms.specs.declared.channels.Channel.{Channel}
 use Rattle.terms.specs.declared.channels.Channel.the-variants.{C, G}
 use Rattle.terms.specs.declared.channels.Place.{Place}
-use Rattle.readings.specs.Places.{Readings, needed, Usable}
+use Rattle.readings.specs.Places.{Readings, limit, needed, Usable}
 
 -- the amount, 0 for nothing
 abbrev pub amountOf : Option ℕ → ℕ
@@ -68,7 +68,7 @@ pub record Written (at : Readings) (h : ℕ) (old hours : List ℤ) (p c : ℕ) 
 
 -- the most that a point has in an hour on a channel: twelve times the limit of an interval
 abbrev pub hourMost : ℕ
-hourMost = 180000000
+hourMost = 12 * limit
 
 -- every place of the hour is usable, so that no hour value is above its limit, and all are written
 pub record Integrated (at : Readings) (n h : ℕ) (old hours : List ℤ) : Type 0 where

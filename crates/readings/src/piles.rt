@@ -28,7 +28,7 @@ pub impl<M: Source, B: Source> Source for Pile<M, B> as PileSource {
 pub impl<M: Correctable, B: Source> Correctable for Pile<M, B> as PileCorrectable {
     ghost extent = { λ s. M·Correctable .extent (s .main) };
 
-    ghost tied = { λ s t. M·Correctable .tied (s .main) (t .main) × (s .backup ≡ t .backup) };
+    ghost tied = { λ s p t. M·Correctable .tied (s .main) p (t .main) × (s .backup ≡ t .backup) };
 
     fn correct(&mut self, place: Place, amount: u32) -> Result<(), Refusal> {
         self.main.correct(place, amount)

@@ -1,5 +1,4 @@
 // The same hourly amounts every day.
-ghost use mathlib.Core.Path.{_≡_};
 ghost use Rattle.readings.specs.Profiles.{Within};
 
 mod methods;

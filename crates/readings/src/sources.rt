@@ -27,8 +27,9 @@ pub trait Correctable: Source {
     // The places that it accepts.
     ghost extent: { Self → Place → Bool };
 
-    // That two states stand over the same lent memory, so that whoever lent it knows what it holds.
-    ghost tied: { Self → Self → Type 0 };
+    // What else holds of the states before and after a correction at a place: that they stand over the same
+    // lent memory, and what of it stays, so that whoever lent it knows what it holds.
+    ghost tied: { Self → Place → Self → Type 0 };
 
     // Puts an amount at a place of the extent.
     fn correct(&mut self, place: Place, amount: u32) -> Result<(), Refusal>
@@ -36,5 +37,5 @@ pub trait Correctable: Source {
         ensures places { λ r. ⌜ (isOk r ≡ true → Corrected (Self·Source .at (now (self .entry))) (Self·Source .at (now (self .exit))) place amount) ⌝ }
         ensures refused { λ r. ⌜ (isErr r ≡ true → now (self .exit) ≡ now (self .entry)) ⌝ }
         ensures stays { λ _. ⌜ ((q : Place) → extent (now (self .exit)) q ≡ extent (now (self .entry)) q) ⌝ }
-        ensures lender { λ _. ⌜ tied (now (self .entry)) (now (self .exit)) ⌝ };
+        ensures lender { λ _. ⌜ tied (now (self .entry)) place (now (self .exit)) ⌝ };
 }

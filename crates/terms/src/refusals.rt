@@ -7,7 +7,8 @@ use crate::channels::PlaceEq;
 use crate::channels::PlacePartialEq;
 use std::fmt;
 
-// Each case holds the values of its place. A refused call has changed nothing of what it was given.
+// Each case holds the values of its place. A refused call has changed nothing of what it was given, but
+// for numbers that were lent to work in.
 #[derive(Clone, Copy, PartialEq, Eq)]
 pub enum Refusal {
     // A point entered with a letter that stands for no class.

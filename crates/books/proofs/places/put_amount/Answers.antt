@@ -6,6 +6,7 @@ use lib.ListN.{getD}
 use Rattle.books.specs.Books.{offset, placesBy}
 use Rattle.books.specs.Bytes.{long}
 use Rattle.books.proofs.Offsets.{corrected, header-kept, offset-inside}
+use Rattle.books.proofs.Rules.{was-read}
 use Rattle.books.proofs.places.put_amount.Needs as need
 
 pub put-four-bytes-requires : need.put-four-bytes-requires
@@ -25,4 +26,5 @@ returns c =
     record {
       places = corrected xs bs x p (c .args .amount) (c .pre .read) (c .pre .inside) (c .put-four-bytes .kept .bytes) here others (c .pre .low);
       stays = λ q. ap (λ h. placesBy h q) (header-kept xs bs x p (c .args .amount) (c .pre .read) (c .pre .inside) (c .put-four-bytes .kept .bytes) here others);
+      kept = record { bytes = subst (λ h. (k : ℕ) → (k < offset h p) ⊎ (offset h p + 4 ≤ k) → getD xs k 0 ≡ getD bs k 0) (was-read bs x (c .pre .read) .0) others };
     }

@@ -4,7 +4,6 @@ use native.Mathlib.Omega.{arith}
 use lib.ListN.{length}
 use Rattle.std.proofs.shelf.Results.{made-weaker}
 use Rattle.std.specs.Of.String.{string-bytes}
-use Rattle.terms.specs.Answers.{Answer, gives}
 use Rattle.hourlist.specs.Lists.{firstHour, HoursOf}
 use Rattle.hourlist.proofs.Lines.{printed-lines, printed-report}
 use Rattle.hourlist.proofs.lists.hour_of.Needs as need

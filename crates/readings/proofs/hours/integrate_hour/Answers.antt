@@ -1,21 +1,20 @@
 use mathlib.Core.Path.{_≡_, refl, sym, ap, subst, _∙_}
-use mathlib.Core.List.{List, [], _∷_}
+use mathlib.Core.List.{[], _∷_}
 use Prim.Native.Nat.{ℕ, _+_, _-_, _*_, _/_, _≤_}
 use native.Mathlib.Omega.{arith}
 use borrow.Author.Needs.{needs}
-use lib.IntN.{ℤ, pos}
+use lib.IntN.{pos}
 use lib.ListN.{length, getD}
 use mir.Syntax.{w64}
 use Rattle.std.proofs.shelf.Signed.{toZ-ofZ}
-use Rattle.std.specs.declared.option.Option.{Option}
 use Rattle.std.specs.declared.option.Option.the-variants.{Some}
-use Rattle.terms.specs.Answers.{Answer, gives, refuses}
+use Rattle.terms.specs.Answers.{gives, refuses}
 use Rattle.terms.specs.Channels.{placeAt}
 use Rattle.terms.specs.Refusals.{numberOf, placeOf}
 use Rattle.terms.specs.declared.channels.Channel.{Channel}
 use Rattle.terms.specs.declared.channels.Channel.the-variants.{C, G}
-use Rattle.readings.specs.Hours.{Written, HourRead, amountOf, sumFrom, slot}
-use Rattle.readings.specs.Places.{limit, needed, Usable}
+use Rattle.readings.specs.Hours.{Written, sumFrom, slot}
+use Rattle.readings.specs.Places.{limit, Usable}
 use Rattle.readings.proofs.Judging.{judged}
 use Rattle.readings.proofs.Needing.{found}
 use Rattle.readings.proofs.Progress.{Passed, ordinal-at, passed-none, passed-start, passed-place, passed-channel, passed-point, written-none, written-again, written-on, written-channel, written-point, all-read, first-fault, sum-none, sum-more}
