@@ -1,4 +1,6 @@
 // Books of readings over bytes, and the book check.
+#![tactic(auto)]
+
 mod books;
 mod bytes;
 mod headers;

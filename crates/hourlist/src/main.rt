@@ -1,5 +1,7 @@
 // Prints the hour values of hour 0, by the tree in tree.txt and the readings in book.bin of the working
 // directory, or why one of them is refused.
+#![tactic(auto)]
+
 mod lists;
 
 use lists::hour_listing;

@@ -1,4 +1,6 @@
 // The run of an hour: losses found network by network and divided among the members.
+#![tactic(auto)]
+
 mod blocks;
 mod carry;
 mod groups;

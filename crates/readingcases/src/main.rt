@@ -13,6 +13,8 @@
 // made, and then the place is read. Where = stands before the four, the amount is written into the bytes
 // of the book before it is made, whatever it is; 4294967295 is nothing. In the end hour H of N points is
 // integrated, of a profile that of P points. A line that begins with # is printed as it is.
+#![tactic(auto)]
+
 use books::{Book, WorkingBook, book_check};
 use readings::{Correctable, Pile, Profile, Source, hour_value, integrate_hour};
 use std::alloc::{AllocError, Global};

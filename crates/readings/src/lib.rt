@@ -1,4 +1,6 @@
 // Sources of five-minute readings, corrections, and the integration of an hour.
+#![tactic(auto)]
+
 mod hours;
 mod piles;
 mod profiles;

@@ -1,4 +1,6 @@
 // The calculation of an hour's losses as definitions, in specs/, and its laws, each as the contract of a function.
+#![tactic(auto)]
+
 ghost use Rattle.shares.specs.Laws.{LawsHold, ReadingsAreRules};
 ghost use Rattle.shares.specs.Worked.{TableHolds};
 

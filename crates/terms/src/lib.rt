@@ -1,5 +1,7 @@
 // What every layer shares: the channels and the amounts on them, figures in MWh, and the refusals,
 // each with its number and its place.
+#![tactic(auto)]
+
 mod channels;
 mod figures;
 mod refusals;

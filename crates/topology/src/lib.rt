@@ -1,4 +1,6 @@
 // Metering trees: the draft in which points are entered, and the tree in service.
+#![tactic(auto)]
+
 mod numbers;
 mod tables;
 mod trees;

@@ -3,6 +3,8 @@
 // A line is pieces with spaces between them. In a piece / stands for a line feed, ^ for a carriage
 // return and _ for a space, and a piece that ends in *N stands N times. A line that begins with # is
 // printed as it is.
+#![tactic(auto)]
+
 use std::alloc::{AllocError, Global};
 use std::io;
 use topology::Tree;

@@ -1,4 +1,6 @@
 // The tree text: drafts and trees from lines.
+#![tactic(auto)]
+
 mod lines;
 mod texts;
 
