@@ -117,15 +117,15 @@ module _ (ps : List Point) where
   abbrev way_rule : (ℕ → List ℕ) → ℕ → List ℕ
   way_rule v p = cond (is_member (class_of ps p)) (p ∷ way_from v (parent_of ps p)) []
 
-  way_from : (n m : ℕ) → way_in ps n m ≡ way_from (way_in ps n) m
+  way_from_is : (n m : ℕ) → way_in ps n m ≡ way_from (way_in ps n) m
   unfolding way_in
-  way_from zero zero = refl
-  way_from (suc n) zero = refl
-  way_from n (suc m) = refl
+  way_from_is zero zero = refl
+  way_from_is (suc n) zero = refl
+  way_from_is n (suc m) = refl
 
   way_next : (n p : ℕ) → way_in ps (suc n) p ≡ way_rule (way_in ps n) p
   unfolding way_in
-  way_next n p = ap (λ (up : List ℕ). cond (is_member (class_of ps p)) (p ∷ up) []) (way_from n (parent_of ps p))
+  way_next n p = ap (λ (up : List ℕ). cond (is_member (class_of ps p)) (p ∷ up) []) (way_from_is n (parent_of ps p))
 
   from_same : (v w : ℕ → List ℕ) (m : ℕ) → (0 < m → v m ≡ w m) → way_from v m ≡ way_from w m
   from_same v w zero e = refl

@@ -25,7 +25,7 @@ loop-channel-init g c = (c.loop-point.invariant.0, written_again _ _ _ _ _ _ c.l
 
 pub loop-interval-init : goal.loop-interval-init
 loop-interval-init g c =
-    let start = c.intervals-of-start.ensures.0 in
+    let start = c.intervals_of-start.ensures.0 in
     (passed_start _ _ _ _ _ (omega arith) c.loop-channel.invariant.0, sym (sum_none _ _ _ _ _ start), omega arith)
 
 -- the place of this turn has the amount, and it is within the limit
@@ -36,8 +36,8 @@ here g c =
     let place = place_at c.loop-point.point (channelAt c.loop-channel.channel-index) c.loop-interval.interval in
     found (g.S.Source.at c.args.source.now place) c.in-Ok.amount place c.in-Ok.ensures
 
-pub overflow-add-sum : goal.overflow-add-sum
-overflow-add-sum g c = omega (arith, (here g c).1, c.loop-interval.invariant.2, c.intervals-of-start.ensures.0, c.intervals-of-start.ensures.1)
+pub overflow_add-sum : goal.overflow_add-sum
+overflow_add-sum g c = omega (arith, (here g c).1, c.loop-interval.invariant.2, c.intervals_of-start.ensures.0, c.intervals_of-start.ensures.1)
 
 pub loop-interval-preserved : goal.loop-interval-preserved
 loop-interval-preserved g c =
@@ -47,7 +47,7 @@ loop-interval-preserved g c =
     let m = c.loop-channel.channel-index in
     let i = c.loop-interval.interval in
     let is = here g c in
-    let start = c.intervals-of-start.ensures.0 in (
+    let start = c.intervals_of-start.ensures.0 in (
       passed_place at h p (channelAt m) m i _ (ordinal_at m c.loop-channel-test.true) refl (subst Usable (sym is.0) is.1) c.loop-interval.invariant.0,
       sum_more at h p (channelAt m) i c.in-Ok.amount c.loop-interval.sum (omega arith) is.0 c.loop-interval.invariant.1,
       omega (arith, is.1, c.loop-interval.invariant.2),
@@ -58,13 +58,13 @@ loop-channel-preserved g c =
     let at = g.S.Source.at c.args.source.now in
     let m = c.loop-channel.channel-index in
     let o = ordinal_at m c.loop-channel-test.true in
-    let start = c.intervals-of-start.ensures.0 in
-    let end = c.intervals-of-start.ensures.1 in
+    let start = c.intervals_of-start.ensures.0 in
+    let end = c.intervals_of-start.ensures.1 in
     let twelve : c.loop-interval.interval - 12 * c.args.hour ≡ 12 = omega arith in
     let total : c.loop-interval.sum ≡ sum_from at c.loop-point.point (channelAt m) (12 * c.args.hour) 12
     = c.loop-interval.invariant.1 ∙ ap (λ k. sum_from at c.loop-point.point (channelAt m) (12 * c.args.hour) k) twelve in (
       passed_channel at c.args.hour _ _ _ (omega arith) c.loop-interval.invariant.0,
-      written_channel at c.args.hour _ (channelAt m) m _ _ _ _ o c.loop-point.auto.point (c.slot-of.ensures ∙ ap (slot c.loop-point.point) o) (omega (arith, o, c.slot-of.ensures))
+      written_channel at c.args.hour _ (channelAt m) m _ _ _ _ o c.loop-point.auto.point (c.slot_of.ensures ∙ ap (slot c.loop-point.point) o) (omega (arith, o, c.slot_of.ensures))
           (to_z-of_z w64 c.from.result (search rules) ∙ (c.from.ensures ∙ ap pos total)) c.loop-channel.invariant.1,
     )
 
@@ -87,8 +87,8 @@ returns-in-Err g c =
     let m = c.loop-channel.channel-index in
     let i = c.loop-interval.interval in
     let e = c.in-Err.refusal in
-    let start = c.intervals-of-start.ensures.0 in
-    let end = c.intervals-of-start.ensures.1 in
+    let start = c.intervals_of-start.ensures.0 in
+    let end = c.intervals_of-start.ensures.1 in
     let read = first_fault at h (length c.args.hours.now / 2) p (channelAt m) m i (number_of e) (place_of e) c.args.hours.now c.loop-channel.hours
     (ordinal_at m c.loop-channel-test.true) (c.loop-point.auto.point, c.loop-point-test.true, omega arith, omega arith) (sym c.in-Err.ensures) c.loop-interval.invariant.0
     (written_on at h p m _ _ _ c.loop-point.invariant.1 c.loop-channel.invariant.1) in
@@ -102,8 +102,8 @@ returns g c =
     let read = all_read at c.args.hour n _ c.args.hours.now _ end c.loop-point.invariant.0 c.loop-point.invariant.1 in
     record { tests = judged at c.args.hour _ _ _ (gives tt) read; read = read }
 
-pub returns·2 : goal.returns·2
-returns·2 g c =
+pub returns-2 : goal.returns-2
+returns-2 g c =
     let at = g.S.Source.at c.args.source.now in
     let h = c.args.hour in
     let p = c.loop-point.point in

@@ -32,7 +32,7 @@ returns-then-at-above c =
 pub returns : goal.returns
 returns c =
     let ps : List Point = c.args.points.now in
-    let none = none_at ps c.loop-q.at c.in-default.ensures in (
+    let none = none_at ps c.loop-q.at c.in_default.ensures in (
       (λ no_way. absurd (false≢true no_way)),
       (λ b. absurd (nothing_above ps c.args.above c.requires.some c.loop-q.at none (c.loop-q.invariant.1 b))),
     )

@@ -11,18 +11,18 @@ use Rattle.topology.proofs.trees.Tree.path_len.Goals as goal
 rule-of : (ps : List Point) → Placed ps → DepthRule ps
 rule-of ps placed = (refl, depth_step ps placed)
 
-pub returns-in-err-q : goal.returns-in-err-q
-returns-in-err-q c =
+pub returns-in_err-q : goal.returns-in_err-q
+returns-in_err-q c =
     let ps : List Point = listed c.args.self.now.table in
-    let none = none_at ps c.args.member (c.in-err-q.ensures ∙ ap (λ (xs : List Point). point_at xs c.args.member) c.points.ensures) in
-    record { value = c.from-residual.ensures ∙ sym (ap (path_by ps) none); rule = rule-of ps c.args.self.now.placed }
+    let none = none_at ps c.args.member (c.in_err-q.ensures ∙ ap (λ (xs : List Point). point_at xs c.args.member) c.points.ensures) in
+    record { value = c.from_residual.ensures ∙ sym (ap (path_by ps) none); rule = rule-of ps c.args.self.now.placed }
 
 pub returns : goal.returns
 returns c =
     let ps : List Point = listed c.args.self.now.table in
-    let here = some_at ps c.args.member c.in-ok-q.q (c.in-ok-q.ensures ∙ ap (λ (xs : List Point). point_at xs c.args.member) c.points.ensures) in
+    let here = some_at ps c.args.member c.in_ok-q.q (c.in_ok-q.ensures ∙ ap (λ (xs : List Point). point_at xs c.args.member) c.points.ensures) in
     record {
       value =
-          c.path-of.ensures ∙ ap (λ (xs : List Point). path_by xs c.in-ok-q.q) c.points-2.ensures ∙ sym (ap (path_by ps) here.1);
+          c.path_of.ensures ∙ ap (λ (xs : List Point). path_by xs c.in_ok-q.q) c.points-2.ensures ∙ sym (ap (path_by ps) here.1);
       rule = rule-of ps c.args.self.now.placed;
     }
