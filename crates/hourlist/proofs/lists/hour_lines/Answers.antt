@@ -11,6 +11,6 @@ loop-i-preserved c =
     let ps : List Point = c.args.points.now in
     let hs : List ℤ = c.args.hours.now in
     let i : ℕ = c.loop-i.i in
-    pushed c.as-str.result.now c.loop-i.invariant c.in-ok-push-str.was c.push-str.ensures.bytes
-    ∙ ap (λ (bs : List ℕ). lines_to ps (standing hs C) (standing hs G) i ++ bs) (c.as-str.ensures.value ∙ c.in-ok-line.ensures)
+    pushed c.as_str.result.now c.loop-i.invariant c.in_ok-push_str.was c.push_str.ensures.bytes
+    ∙ ap (λ (bs : List ℕ). lines_to ps (standing hs C) (standing hs G) i ++ bs) (c.as_str.ensures.value ∙ c.in_ok-line.ensures)
     ∙ sym (lines_more ps (standing hs C) (standing hs G) i)

@@ -9,10 +9,10 @@ returns-in-Ok c =
     let ps = c.args.points.now in
     let book = c.args.book.now in
     let half : length c.args.hours.now / 2 ≡ length ps = omega (arith, c.requires) in
-    IfOk-weaker c.hour-lines.result _ _
-    (λ s e. printed_lines (first_hour book (length ps)) ps book (string_bytes s) c.first-hour.new.hours
-    (c.in-Ok.ensures.tests ∙ ap (first_hour book) half) (subst (λ n. HoursOf book n c.first-hour.new.hours) half c.in-Ok.ensures.sums) e)
-    c.hour-lines.ensures
+    IfOk-weaker c.hour_lines.result _ _
+    (λ s e. printed_lines (first_hour book (length ps)) ps book (string_bytes s) c.first_hour.new.hours
+    (c.in-Ok.ensures.tests ∙ ap (first_hour book) half) (subst (λ n. HoursOf book n c.first_hour.new.hours) half c.in-Ok.ensures.sums) e)
+    c.hour_lines.ensures
 
 pub returns-in-Err : goal.returns-in-Err
 returns-in-Err c =

@@ -12,14 +12,14 @@ use Rattle.losses.proofs.carry.share_out.Goals.{then-is-member-of, else-is-membe
 pub loop-i-init : goal.loop-i-init
 loop-i-init g c = sharing_none _ _ _ _ _ _
 
-pub share-of-share-requires : goal.share-of-share-requires
-share-of-share-requires g c =
+pub share_of-share-requires : goal.share_of-share-requires
+share_of-share-requires g c =
     let h = values_in c.args.hours.now g.A.Amount.on in
     let sum : c.size-total.result ≡ member_sum c.args.points.now h c.args.network = c.size-total.ensures ∙ ap nat_abs c.requires.sum in
     let fits : SFits w64 c.wh.result = search rules in
     record {
       light = rw (to_z-of_z w64 c.wh.result fits) (rw c.wh.ensures c.requires.light);
-      hourly = rw (c.size-value.ensures ∙ ap nat_abs c.value-at.ensures) (value_small c.args.hours.now c.requires.hourly g.A.Amount.on (suc c.loop-i.i));
+      hourly = rw (c.size-value.ensures ∙ ap nat_abs c.value_at.ensures) (value_small c.args.hours.now c.requires.hourly g.A.Amount.on (suc c.loop-i.i));
       small = carried_small c.args.points.now h c.args.network (g.A.Amount.watt_hours c.args.burden) c.size-total.result sum c.args.borne.now c.loop-i.borne c.loop-i.carry c.loop-i.i _ (omega (arith, sum, c.requires.limit)) c.loop-i.invariant;
     }
 
@@ -35,7 +35,7 @@ loop-i-preserved g c =
           let fits : SFits w64 w.share-of-share.result.0 = search rules in
           let wide : SFits w64 w.wh.result = search rules in
           let burden : to_z w64 (of_z w64 w.wh.result) ≡ z = to_z-of_z w64 w.wh.result wide ∙ w.wh.ensures in
-          let value : w.size-value.result ≡ h (suc c.loop-i.i) = w.size-value.ensures ∙ ap nat_abs w.value-at.ensures in
+          let value : w.size-value.result ≡ h (suc c.loop-i.i) = w.size-value.ensures ∙ ap nat_abs w.value_at.ensures in
           subst₂ (λ (new : List ℤ) (rest : ℕ). Sharing ps h m z c.size-total.result c.args.borne.now new rest (c.loop-i.i + 1)) (sym w.borne-is) (sym w.carry_is)
           (share_yes ps h m z c.size-total.result sum c.args.borne.now c.loop-i.borne c.loop-i.carry c.loop-i.i
           (to_z w64 (of_z w64 w.share-of-share.result.0)) w.share-of-share.result.1 (sym w.if-is-member-of.ensures) (omega arith) c.loop-i.invariant

@@ -16,7 +16,7 @@ loop-i-preserved g c =
     elim c.if-has.branch [
       | then-has w ↦
           let more = where_yes b f c.loop-i.i (sym w.if-has.ensures) in
-          let here = w.size-sum.ensures ∙ ap nat_abs w.value-at.ensures in
+          let here = w.size-sum.ensures ∙ ap nat_abs w.value_at.ensures in
           (omega (arith, more, here, w.sum-is, c.loop-i.invariant.0), omega (arith, here, w.sum-is, c.loop-i.invariant.1, value_small c.args.hours.now c.requires.hourly g.A.Amount.on (suc c.loop-i.i)))
       | else-has w ↦
           let more = where_no b f c.loop-i.i (sym w.if-has.ensures) in

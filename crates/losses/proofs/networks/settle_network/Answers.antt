@@ -2,16 +2,16 @@ use Rattle.std.proofs.Common.{rules}
 use Rattle.losses.proofs.networks.settle_network.Goals as goal
 
 -- src/networks.rt:92:21
-pub returns-in-err-unborne-c : goal.returns-in-err-unborne-c
-returns-in-err-unborne-c g c = ?
+pub returns-in_err-unborne_c : goal.returns-in_err-unborne_c
+returns-in_err-unborne_c g c = ?
 
 -- src/networks.rt:93:21
-pub returns-in-err-unborne-g : goal.returns-in-err-unborne-g
-returns-in-err-unborne-g g c = ?
+pub returns-in_err-unborne_g : goal.returns-in_err-unborne_g
+returns-in_err-unborne_g g c = ?
 
 -- src/networks.rt:94:9
-pub excess-of-excess-requires : goal.excess-of-excess-requires
-excess-of-excess-requires g c = ?
+pub excess_of-excess-requires : goal.excess_of-excess-requires
+excess_of-excess-requires g c = ?
 
 -- src/networks.rt:69:1
 pub returns : goal.returns

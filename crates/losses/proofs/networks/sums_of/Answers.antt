@@ -6,19 +6,19 @@ use Rattle.losses.specs.Blocks.{values_in}
 use Rattle.losses.proofs.Values.{is_sum, value_small}
 use Rattle.losses.proofs.networks.sums_of.Goals as goal
 
-pub invariant-of-result : goal.invariant-of-result
+pub invariant_of-result : goal.invariant_of-result
 unfolding member_sum
-invariant-of-result c =
+invariant_of-result c =
     let ps = c.args.points.now in
     let hs = c.args.hours.now in
     let m = c.args.network in
     let low = λ (d : Channel). value_small hs c.requires.hourly d in (
-      is_sum _ _ c.monitor-sum.ensures (monitors_limit ps c.requires.limited (values_in hs C) (low C) m),
+      is_sum _ _ c.monitor_sum.ensures (monitors_limit ps c.requires.limited (values_in hs C) (low C) m),
       (
-        is_sum _ _ c.monitor-sum-2.ensures (monitors_limit ps c.requires.limited (values_in hs G) (low G) m),
+        is_sum _ _ c.monitor_sum-2.ensures (monitors_limit ps c.requires.limited (values_in hs G) (low G) m),
         (
-          is_sum _ _ c.group-sum.ensures (members_limit ps c.requires.limited (values_in hs C) (low C) m),
-          (is_sum _ _ c.group-sum-2.ensures (members_limit ps c.requires.limited (values_in hs G) (low G) m), tt),
+          is_sum _ _ c.group_sum.ensures (members_limit ps c.requires.limited (values_in hs C) (low C) m),
+          (is_sum _ _ c.group_sum-2.ensures (members_limit ps c.requires.limited (values_in hs G) (low G) m), tt),
         ),
       ),
     )
@@ -26,8 +26,8 @@ invariant-of-result c =
 pub returns : goal.returns
 unfolding member_sum
 returns c = record {
-  monitors_c = c.monitor-sum.ensures;
-  monitors_g = c.monitor-sum-2.ensures;
-  members_c = c.group-sum.ensures;
-  members_g = c.group-sum-2.ensures;
+  monitors_c = c.monitor_sum.ensures;
+  monitors_g = c.monitor_sum-2.ensures;
+  members_c = c.group_sum.ensures;
+  members_g = c.group_sum-2.ensures;
 }

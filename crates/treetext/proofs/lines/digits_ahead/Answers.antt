@@ -8,17 +8,17 @@ loop-i-preserved c =
     omega (
       arith,
       c.loop-i.invariant,
-      prefix_len-drop_yes is_ascii_digit c.args.text.now c.loop-i.i 0 c.loop-i-test.true (sym c.if-not-is-ascii-digit.ensures.value),
+      prefix_len-drop_yes is_ascii_digit c.args.text.now c.loop-i.i 0 c.loop-i-test.true (sym c.if-not-is_ascii_digit.ensures.value),
     )
 
-pub returns-then-not-is-ascii-digit : goal.returns-then-not-is-ascii-digit
-returns-then-not-is-ascii-digit c =
+pub returns-then-not-is_ascii_digit : goal.returns-then-not-is_ascii_digit
+returns-then-not-is_ascii_digit c =
     record {
       value =
           omega (
             arith,
             c.loop-i.invariant,
-            prefix_len-drop_no is_ascii_digit c.args.text.now c.loop-i.i 0 c.loop-i-test.true (sym c.if-not-is-ascii-digit.ensures.value),
+            prefix_len-drop_no is_ascii_digit c.args.text.now c.loop-i.i 0 c.loop-i-test.true (sym c.if-not-is_ascii_digit.ensures.value),
           );
       bound = omega arith;
     }

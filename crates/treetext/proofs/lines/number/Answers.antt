@@ -7,17 +7,17 @@ use Rattle.std.proofs.lemmas.Str.Parse.{digit_at}
 use Rattle.treetext.proofs.LineShapes.{digit_value_is}
 use Rattle.treetext.proofs.lines.number.Goals as goal
 
-pub overflow-mul-n : goal.overflow-mul-n
-overflow-mul-n c =
+pub overflow_mul-n : goal.overflow_mul-n
+overflow_mul-n c =
     let few : c.loop-b.b-index ≤ 3 = omega arith in
     let most : 10 ^ c.loop-b.b-index ≤ 10 ^ 3 = pow-le-pow_right {n = 10} (omega arith) few in
     omega arith
 
-pub overflow-sub-n : goal.overflow-sub-n
-overflow-sub-n c = omega (arith, digit_at c.args.digits.now c.loop-b.b-index c.requires.digits c.loop-b-test.true)
+pub overflow_sub-n : goal.overflow_sub-n
+overflow_sub-n c = omega (arith, digit_at c.args.digits.now c.loop-b.b-index c.requires.digits c.loop-b-test.true)
 
-pub overflow-add-n : goal.overflow-add-n
-overflow-add-n c =
+pub overflow_add-n : goal.overflow_add-n
+overflow_add-n c =
     let few : c.loop-b.b-index ≤ 3 = omega arith in
     let most : 10 ^ c.loop-b.b-index ≤ 10 ^ 3 = pow-le-pow_right {n = 10} (omega arith) few in
     omega (arith, digit_at c.args.digits.now c.loop-b.b-index c.requires.digits c.loop-b-test.true)

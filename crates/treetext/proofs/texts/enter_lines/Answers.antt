@@ -9,20 +9,20 @@ use Rattle.treetext.proofs.texts.enter_lines.Goals as goal
 pub loop-rest-init : goal.loop-rest-init
 loop-rest-init c = so_far_none (points_in c.args.draft.now) c.args.text.now c.requires
 
-pub returns-in-default : goal.returns-in-default
-returns-in-default c =
+pub returns-in_default : goal.returns-in_default
+returns-in_default c =
     let rest : List ℕ = c.loop-rest.rest.now in
     let some : 0 < length rest = omega (arith, eqb-false (length rest) 0 (sym c.loop-rest-test.ensures)) in
     so_far_misshapen (points_in c.loop-rest.draft) c.args.text.now rest c.loop-rest.invariant _
-    (ap (λ (n : ℕ). n + 1) (ap length c.points.ensures)) some c.in-default.ensures
+    (ap (λ (n : ℕ). n + 1) (ap length c.points.ensures)) some c.in_default.ensures
 
-pub returns-in-err-enter : goal.returns-in-err-enter
-returns-in-err-enter c =
-    let p = err_from_is_err_and c.from-residual.result c.from-residual.ensures.1 in
+pub returns-in_err-enter : goal.returns-in_err-enter
+returns-in_err-enter c =
+    let p = err_from_is_err_and c.from_residual.result c.from_residual.ensures.1 in
     rw (p.1, p.2)
     (so_far_barred (points_in c.loop-rest.draft) c.args.text.now c.loop-rest.rest.now c.loop-rest.invariant
     c.in-Some.field-0.letter c.in-Some.field-0.parent c.in-Some.field-0.len c.in-Some.ensures
-    (points_in c.enter.new.self) c.in-err-enter.field-0.0 c.in-err-enter.ensures)
+    (points_in c.enter.new.self) c.in_err-enter.field-0.0 c.in_err-enter.ensures)
 
 pub loop-rest-preserved : goal.loop-rest-preserved
 loop-rest-preserved c =
@@ -30,7 +30,7 @@ loop-rest-preserved c =
     subst (SoFar (points_in c.enter.new.self) c.args.text.now) (sym (take_rest rest c.in-Some.field-0.len))
     (so_far_more (points_in c.loop-rest.draft) c.args.text.now rest c.loop-rest.invariant
     c.in-Some.field-0.letter c.in-Some.field-0.parent c.in-Some.field-0.len c.in-Some.ensures
-    (points_in c.enter.new.self) c.in-ok-enter.field-0 c.in-ok-enter.ensures)
+    (points_in c.enter.new.self) c.in_ok-enter.field-0 c.in_ok-enter.ensures)
 
 pub returns : goal.returns
 returns c =

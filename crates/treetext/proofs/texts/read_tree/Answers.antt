@@ -4,4 +4,4 @@ use Rattle.treetext.proofs.texts.read_tree.Goals as goal
 
 pub returns : goal.returns
 returns c =
-    tree_read c.args.text.now (drafted c.in-ok-read.read) c.serve.result _ _ c.in-ok-read.ensures c.serve.ensures
+    tree_read c.args.text.now (drafted c.in_ok-read.read) c.serve.result _ _ c.in_ok-read.ensures c.serve.ensures

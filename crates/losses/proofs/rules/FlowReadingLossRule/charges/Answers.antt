@@ -7,10 +7,10 @@ pub returns-then-sub-ge0 : goal.returns-then-sub-ge0
 returns-then-sub-ge0 c =
     let s = c.args.sums in
     flow_in s.monitors_c.0 s.monitors_g.0 s.members_c.0 s.members_g.0 (s.mc, s.mg, s.sc, s.sg) _ _
-    (omega (arith, ints, c.sub.ensures)) (omega (arith, ints, c.loss-loss.ensures)) c.on-c.ensures.1
+    (omega (arith, ints, c.sub.ensures)) (omega (arith, ints, c.loss-loss.ensures)) c.on_c.ensures.1
 
 pub returns-else-sub-ge0 : goal.returns-else-sub-ge0
 returns-else-sub-ge0 c =
     let s = c.args.sums in
     flow_out s.monitors_c.0 s.monitors_g.0 s.members_c.0 s.members_g.0 (s.mc, s.mg, s.sc, s.sg) _ _
-    (omega (arith, ints, c.sub.ensures)) c.on-g.ensures.0 (omega (arith, ints, c.loss-loss.ensures))
+    (omega (arith, ints, c.sub.ensures)) c.on_g.ensures.0 (omega (arith, ints, c.loss-loss.ensures))

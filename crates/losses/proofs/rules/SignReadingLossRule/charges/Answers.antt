@@ -7,10 +7,10 @@ pub returns-then-loss-ge0 : goal.returns-then-loss-ge0
 returns-then-loss-ge0 c =
     let s = c.args.sums in
     sign_in (nat_abs s.monitors_c.0) (nat_abs s.monitors_g.0) (nat_abs s.members_c.0) (nat_abs s.members_g.0) _ _
-    (omega (arith, ints, c.loss-loss.ensures)) (omega (arith, ints, c.loss-loss.ensures)) c.on-c.ensures.1
+    (omega (arith, ints, c.loss-loss.ensures)) (omega (arith, ints, c.loss-loss.ensures)) c.on_c.ensures.1
 
-pub overflow-sub-loss : goal.overflow-sub-loss
-overflow-sub-loss c =
+pub overflow_sub-loss : goal.overflow_sub-loss
+overflow_sub-loss c =
     let s = c.args.sums in
     omega (arith, ints, c.loss-loss.ensures, loss_small s.monitors_c.0 s.monitors_g.0 s.members_c.0 s.members_g.0 (s.mc, s.mg, s.sc, s.sg))
 
@@ -19,4 +19,4 @@ returns-else-loss-ge0 c =
     let s = c.args.sums in
     let small = loss_small s.monitors_c.0 s.monitors_g.0 s.members_c.0 s.members_g.0 (s.mc, s.mg, s.sc, s.sg) in
     sign_out (nat_abs s.monitors_c.0) (nat_abs s.monitors_g.0) (nat_abs s.members_c.0) (nat_abs s.members_g.0) _ _
-    (omega (arith, ints, c.loss-loss.ensures)) c.on-g.ensures.0 (omega (arith, ints, c.loss-loss.ensures))
+    (omega (arith, ints, c.loss-loss.ensures)) c.on_g.ensures.0 (omega (arith, ints, c.loss-loss.ensures))
