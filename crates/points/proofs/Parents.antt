@@ -1,8 +1,8 @@
 -- What the points of a tree name, and what stands to be said of each point by what holds of its parent.
 use Rattle.std.proofs.Common.{◌≡◌, ℕ, zero, suc, ◌<◌, ◌≤◌, Bool, true, false, ◌&&◌, ◌||◌, eqb, leb, List, length, get_or, sym, refl, ap, ◌∙◌, ⊎_elim, arith}
-use Rattle.std.proofs.lemmas.Bool.{and_parts, cases_lt, eq-eqb, eqb-true, false≢true, or_cases, or_left, or_right}
+use Rattle.std.proofs.lemmas.Bool.{and_parts, cases_lt, eqb-true, false≢true, or_cases, or_left, or_right}
 use Rattle.points.specs.Classes.{is_root, is_member, is_monitor, is_embedded, hosts}
-use Rattle.points.specs.Points.{no_point, point, class_of, parent_of, joins, is_network, IsPoint}
+use Rattle.points.specs.Points.{no_point, class_of, parent_of, joins, is_network, IsPoint}
 use Rattle.points.specs.Rules.{parent_fits, Placed}
 use Rattle.points.specs.declared.classes.Class.{Class}
 use Rattle.points.specs.declared.classes.Class.TheVariants.{Root, Member, Monitor, Embedded}

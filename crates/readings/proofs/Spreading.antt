@@ -1,5 +1,5 @@
 -- The parts of an hour's amount add up to it, and none is above the limit of an interval.
-use Rattle.std.proofs.Common.{◌≡◌, ℕ, zero, suc, ◌+◌, ◌-◌, ◌*◌, ◌/◌, ◌%◌, ◌≤◌, true, eqb, List, get_or, Some, sym, refl, ap, ◌∙◌, subst, add-mul, one-mul, zero-mul, add-one, arith}
+use Rattle.std.proofs.Common.{◌≡◌, ℕ, zero, suc, ◌+◌, ◌*◌, ◌/◌, ◌%◌, ◌≤◌, true, eqb, List, get_or, Some, sym, refl, ap, ◌∙◌, subst, add-mul, one-mul, zero-mul, add-one, arith}
 use Rattle.std.proofs.lemmas.Bool.{eq-eqb}
 use Rattle.terms.specs.Channels.{place_at}
 use Rattle.terms.specs.declared.channels.Channel.{Channel}

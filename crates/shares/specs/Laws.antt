@@ -1,5 +1,5 @@
 -- What holds of the figures of an hour.
-use Rattle.std.specs.Prelude.{◌≡◌, ℕ, ◌≤◌, true, List, length, ℤ, pos, ◌+ℤ◌, ◌-ℤ◌, nat_abs, ◌≤ℤ◌}
+use Rattle.std.specs.Prelude.{◌≡◌, ℕ, true, List, length, ℤ, pos, ◌+ℤ◌, ◌-ℤ◌, ◌≤ℤ◌}
 use Rattle.terms.specs.declared.channels.Channel.{Channel}
 use Rattle.terms.specs.declared.channels.Channel.TheVariants.{C, G}
 use Rattle.points.specs.Classes.{is_member, is_monitor}
@@ -7,7 +7,7 @@ use Rattle.points.specs.Points.{class_of, parent_of, is_network, depth, IsPoint,
 use Rattle.points.specs.Rules.{Placed, Limited}
 use Rattle.points.specs.declared.classes.Point.{Point}
 use Rattle.shares.specs.Trees.{over_members}
-use Rattle.shares.specs.Rules.{Rule, Meaning, flow_reading, sign_reading}
+use Rattle.shares.specs.Rules.{Meaning, flow_reading, sign_reading}
 use Rattle.shares.specs.Carry.{ByCarryRule}
 use Rattle.shares.specs.Hours.{Hour, InRange, loss, charge, borne, burden, unborne_of, adjusted, final, root_net, billed_net, unborne, excess}
 use Rattle.shares.specs.Exact.{Fraction, Same, Within, ByExactRule, exact, expanded, way_up}

@@ -1,5 +1,5 @@
 -- The run of an hour: what it tests, in order, and what it writes.
-use Rattle.std.specs.Prelude.{◌≡◌, ℕ, ◌+◌, ◌*◌, cond, ◌&&◌, List, [], ◌∷◌, ◌++◌, length, drop, ℤ, nat_le, unsigned_abs}
+use Rattle.std.specs.Prelude.{ℕ, ◌+◌, ◌*◌, cond, ◌&&◌, List, [], ◌∷◌, ◌++◌, length, drop, ℤ, nat_le, unsigned_abs}
 use Rattle.terms.specs.Answers.{Answer, gives, refuses, tested, ◌thereafter◌, in_order}
 use Rattle.terms.specs.Channels.{ordinal}
 use Rattle.terms.specs.declared.channels.Channel.{Channel}

@@ -12,16 +12,12 @@ invariant_of-result c =
     let ps = c.args.points.now in
     let hs = c.args.hours.now in
     let m = c.args.network in
-    let low = λ (d : Channel). value_small hs c.requires.hourly d in (
-      is_sum _ _ c.monitor_sum.ensures (monitors_limit ps c.requires.limited (values_in hs C) (low C) m),
-      (
-        is_sum _ _ c.monitor_sum-2.ensures (monitors_limit ps c.requires.limited (values_in hs G) (low G) m),
-        (
-          is_sum _ _ c.group_sum.ensures (members_limit ps c.requires.limited (values_in hs C) (low C) m),
-          (is_sum _ _ c.group_sum-2.ensures (members_limit ps c.requires.limited (values_in hs G) (low G) m), tt),
-        ),
-      ),
-    )
+    let low = λ (d : Channel). value_small hs c.requires.hourly d in record {
+      mc = is_sum _ _ c.monitor_sum.ensures (monitors_limit ps c.requires.limited (values_in hs C) (low C) m);
+      mg = is_sum _ _ c.monitor_sum-2.ensures (monitors_limit ps c.requires.limited (values_in hs G) (low G) m);
+      sc = is_sum _ _ c.group_sum.ensures (members_limit ps c.requires.limited (values_in hs C) (low C) m);
+      sg = is_sum _ _ c.group_sum-2.ensures (members_limit ps c.requires.limited (values_in hs G) (low G) m);
+    }
 
 pub returns : goal.returns
 unfolding member_sum
