@@ -27,9 +27,9 @@ impl Book<'_> {
     }
 }
 
-// The same for a host in C: 0 for a book that keeps the rules, else the number of the refusal, 6.
-#[unsafe(no_mangle)]
-pub extern "C" fn book_check(bytes: &[u8]) -> u32
+// The same as a number, which a host in C is given: 0 for a book that keeps the rules, else that of the
+// refusal, 6.
+pub fn book_check(bytes: &[u8]) -> u32
     ensures { result ≡ (if well_formed bytes.now then 0 else 6) }
 {
     if keeps_rules(bytes) { 0 } else { 6 }
