@@ -1,7 +1,7 @@
 -- The test of a burden, by what was tested of the number in hand.
-use Rattle.std.proofs.Common.{◌≡◌, ℕ, ◌≤◌, Bool, true, false, cond, leb, [], ◌∷◌, ℤ, nat_abs, sym, ap, ◌∙◌, subst}
+use Rattle.std.proofs.Common.{◌≡◌, ℕ, ◌≤◌, Bool, true, false, leb, [], ◌∷◌, ℤ, nat_abs, sym, ap, ◌∙◌}
 use Rattle.std.proofs.lemmas.Bool.{cond-true, cond-false, leb-true}
-use Rattle.terms.specs.Answers.{Answer, gives, refuses}
+use Rattle.terms.specs.Answers.{gives, refuses}
 use Rattle.terms.specs.Channels.{ordinal}
 use Rattle.terms.specs.declared.channels.Channel.{Channel}
 use Rattle.shares.specs.Runs.{burden_limit, limit_test}

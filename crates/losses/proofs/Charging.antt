@@ -1,9 +1,9 @@
 -- The sums of a network are never negative, so that each is its own size.
-use Rattle.std.proofs.Common.{◌≡◌, ℕ, ◌*◌, ◌<◌, ◌≤◌, ℤ, pos, negsuc, ◌-ℤ◌, nat_abs, ◌≤ℤ◌, ◌<ℤ◌, refl, ap, ◌∙◌, arith}
+use Rattle.std.proofs.Common.{◌≡◌, ℕ, ◌*◌, ◌<◌, ◌≤◌, ℤ, pos, negsuc, ◌-ℤ◌, nat_abs, ◌≤ℤ◌, ◌<ℤ◌, refl, ◌∙◌, arith}
 use Rattle.std.proofs.lemmas.Int.{ints}
 use Rattle.shares.specs.Rules.{loss_of, flow_reading, sign_reading, sum_limit}
 use Rattle.shares.proofs.Rules.{flow_on_c, flow_on_g, sign_on_c, sign_on_g}
-use Rattle.losses.specs.Limits.{IsSum, AreSums}
+use Rattle.losses.specs.Limits.{AreSums}
 
 pub whole_is : (z : ℤ) → pos 0 ≤ℤ z → pos (nat_abs z) ≡ z
 whole_is (pos n) h = refl

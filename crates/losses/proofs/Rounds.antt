@@ -1,10 +1,10 @@
 -- Sharing out network after network gives every point what it bears.
-use Rattle.std.proofs.Common.{◌≡◌, ℕ, zero, suc, ◌<◌, ◌≤◌, Bool, true, false, cond, ◌&&◌, eqb, ltb, List, length, get_or, ℤ, pos, ◌+ℤ◌, sym, refl, ap, ◌∙◌, subst, ⊎_elim, arith}
+use Rattle.std.proofs.Common.{◌≡◌, ℕ, zero, suc, ◌<◌, ◌≤◌, Bool, true, false, cond, ◌&&◌, eqb, ltb, List, length, get_or, ℤ, pos, ◌+ℤ◌, sym, refl, ap, ◌∙◌, ⊎_elim, arith}
 use Rattle.std.proofs.lemmas.Int.{ints}
 use Rattle.std.proofs.lemmas.Bool.{and_from, cases_Bool, cases_lt, cond-true, eq-eqb, eqb-true, false≢true, le-ltb, lt-ltb, or_cases}
 use Rattle.terms.specs.declared.channels.Channel.{Channel}
 use Rattle.points.specs.Classes.{is_member, is_monitor}
-use Rattle.points.specs.Points.{class_of, parent_of, joins, is_network, IsPoint}
+use Rattle.points.specs.Points.{class_of, parent_of, joins, is_network}
 use Rattle.points.specs.Rules.{Placed}
 use Rattle.points.specs.declared.classes.Class.{Class}
 use Rattle.points.specs.declared.classes.Class.TheVariants.{Root, Member, Monitor, Embedded}

@@ -1,5 +1,5 @@
 -- One turn of a sum over the points.
-use Rattle.std.proofs.Common.{◌≡◌, ℕ, zero, suc, ◌+◌, Bool, true, false, cond, refl, ap, ◌∙◌, add-one, arith}
+use Rattle.std.proofs.Common.{◌≡◌, ℕ, suc, ◌+◌, Bool, true, false, cond, refl, ap, ◌∙◌, add-one, arith}
 use Rattle.shares.specs.Sums.{total, total_where}
 
 pub where_none : (b : ℕ → Bool) (f : ℕ → ℕ) → total_where 0 b f ≡ 0

@@ -1,6 +1,5 @@
 -- The hour values that stand among lent numbers.
 use Rattle.std.proofs.Common.{◌≡◌, ℕ, zero, suc, ◌≤◌, List, ℤ, pos, refl, arith}
-use Rattle.terms.specs.Channels.{ordinal}
 use Rattle.terms.specs.declared.channels.Channel.{Channel}
 use Rattle.readings.specs.Hours.{hour_most}
 use Rattle.shares.specs.Rules.{sum_limit}

@@ -1,6 +1,6 @@
 -- The lent numbers of a run, in blocks. The hour values stand first, point after point, C and then G. Then come
 -- blocks of one number for each point.
-use Rattle.std.specs.Prelude.{◌≡◌, ℕ, zero, suc, ◌+◌, ◌*◌, ◌≤◌, List, ℤ, pos, ◌≤ℤ◌, slice_index_or, unsigned_abs}
+use Rattle.std.specs.Prelude.{ℕ, zero, suc, ◌+◌, ◌*◌, ◌≤◌, List, ℤ, pos, ◌≤ℤ◌, slice_index_or, unsigned_abs}
 use Rattle.terms.specs.Channels.{ordinal}
 use Rattle.terms.specs.declared.channels.Channel.{Channel}
 use Rattle.points.specs.declared.classes.Point.{Point}

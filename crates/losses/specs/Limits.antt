@@ -1,5 +1,5 @@
 -- How large the numbers of a run are.
-use Rattle.std.specs.Prelude.{ℕ, ◌≤◌, ℤ, pos, nat_abs, ◌≤ℤ◌}
+use Rattle.std.specs.Prelude.{ℤ, pos, ◌≤ℤ◌}
 use Rattle.shares.specs.Rules.{sum_limit}
 
 -- a sum of a network

@@ -1,5 +1,5 @@
 -- How far a run has come with the networks of an hour.
-use Rattle.std.specs.Prelude.{◌≡◌, ℕ, suc, ◌+◌, ◌*◌, ◌<◌, ◌≤◌, cond, ◌&&◌, List, length, ℤ, pos, nat_lt, slice_index_or, unsigned_abs}
+use Rattle.std.specs.Prelude.{◌≡◌, ℕ, suc, ◌*◌, ◌<◌, ◌≤◌, cond, ◌&&◌, List, length, ℤ, pos, nat_lt, slice_index_or, unsigned_abs}
 use Rattle.terms.specs.declared.channels.Channel.{Channel}
 use Rattle.terms.specs.declared.channels.Channel.TheVariants.{C, G}
 use Rattle.points.specs.Classes.{is_member}

@@ -5,7 +5,6 @@ use Rattle.shares.specs.Trees.{member_sum}
 use Rattle.losses.specs.Blocks.{values_in}
 use Rattle.losses.proofs.Turns.{Sharing, sharing_none, share_yes, share_no, carried_small}
 use Rattle.losses.proofs.Values.{value_small}
-use Rattle.losses.proofs.carry.share_out.Given as given
 use Rattle.losses.proofs.carry.share_out.Goals as goal
 use Rattle.losses.proofs.carry.share_out.Goals.{then-is_member_of, else-is_member_of}
 

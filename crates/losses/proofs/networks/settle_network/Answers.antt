@@ -1,18 +1,88 @@
-use Rattle.std.proofs.Common.{rules}
+use Rattle.std.proofs.Common.{ℤ, ap, ◌∙◌, arith}
+use Rattle.std.proofs.lemmas.Int.{ints}
+use Rattle.std.proofs.lemmas.Result.{err_from_is_err_and}
+use Rattle.terms.specs.Answers.{gives, refuses}
+use Rattle.terms.specs.Refusals.{number_of, place_of}
+use Rattle.terms.specs.declared.channels.Channel.TheVariants.{C, G}
+use Rattle.shares.specs.Runs.{limit_test}
+use Rattle.losses.specs.Blocks.{hour_in}
+use Rattle.losses.proofs.Charging.{loss_small}
+use Rattle.losses.proofs.Rounds.{network_done}
+use Rattle.losses.proofs.Settling.{refused_on_c, then_on_g, unborne_is, burden_at, excess_at, charged_small}
 use Rattle.losses.proofs.networks.settle_network.Goals as goal
 
--- src/networks.rt:92:21
 pub returns-in_err-unborne_c : goal.returns-in_err-unborne_c
-returns-in_err-unborne_c g c = ?
+returns-in_err-unborne_c g c =
+    let ps = c.args.points.now in
+    let hs = c.args.hours.now in
+    let m = c.args.network in
+    let rule = g.R.LossRule.rule c.args.rule.now in
+    let e = c.in_err-unborne_c.field-0.0 in
+    let on_c = burden_at ps rule hs m c.sums_of-sums.result c.sums_of-sums.ensures c.charges-charges.result c.charges-charges.ensures
+    c.requires.placed c.requires.within c.requires.network C c.args.borne_c.now c.requires.done_c in
+    let p = err_from_is_err_and c.from_residual.result c.from_residual.ensures.1 in
+    rw (p.1, p.2) (record {
+      tests = refused_on_c (hour_in ps rule hs) m c.requires.network (number_of e) (place_of e)
+          (c.in_err-unborne_c.ensures.test ∙ ap (λ (z : ℤ). limit_test z m C) on_c);
+      settled = tt;
+    })
 
--- src/networks.rt:93:21
 pub returns-in_err-unborne_g : goal.returns-in_err-unborne_g
-returns-in_err-unborne_g g c = ?
+returns-in_err-unborne_g g c =
+    let ps = c.args.points.now in
+    let hs = c.args.hours.now in
+    let m = c.args.network in
+    let rule = g.R.LossRule.rule c.args.rule.now in
+    let e = c.in_err-unborne_g.field-0.0 in
+    let burdens = burden_at ps rule hs m c.sums_of-sums.result c.sums_of-sums.ensures c.charges-charges.result c.charges-charges.ensures
+    c.requires.placed c.requires.within c.requires.network in
+    let on_c = burdens C c.args.borne_c.now c.requires.done_c in
+    let on_g = burdens G c.args.borne_g.now c.requires.done_g in
+    let p = err_from_is_err_and c.from_residual-in_err-unborne_g.result c.from_residual-in_err-unborne_g.ensures.1 in
+    rw (p.1, p.2) (record {
+      tests = then_on_g (hour_in ps rule hs) m c.requires.network (refuses (number_of e) (place_of e))
+          (c.in_ok-unborne_c.ensures.test ∙ ap (λ (z : ℤ). limit_test z m C) on_c)
+          (c.in_err-unborne_g.ensures.test ∙ ap (λ (z : ℤ). limit_test z m G) on_g);
+      settled = tt;
+    })
 
--- src/networks.rt:94:9
 pub excess_of-excess-requires : goal.excess_of-excess-requires
-excess_of-excess-requires g c = ?
+excess_of-excess-requires g c =
+    let s = c.sums_of-sums.result in
+    let small = charged_small (g.R.LossRule.rule c.args.rule.now) (g.met.R.LossRule.meaning c.args.rule.now) s c.charges-charges.result c.charges-charges.ensures in
+    let most = loss_small s.monitors_c.0 s.monitors_g.0 s.members_c.0 s.members_g.0 (s.mc, s.mg, s.sc, s.sg) in
+    record { c = small.0; g = small.1; l = omega (arith, ints, most, c.loss.ensures) }
 
--- src/networks.rt:69:1
 pub returns : goal.returns
-returns g c = ?
+returns g c =
+    let ps = c.args.points.now in
+    let hs = c.args.hours.now in
+    let m = c.args.network in
+    let rule = g.R.LossRule.rule c.args.rule.now in
+    let x = hour_in ps rule hs in
+    let s = c.sums_of-sums.result in
+    let r = c.charges-charges.result in
+    let burdens = burden_at ps rule hs m s c.sums_of-sums.ensures r c.charges-charges.ensures c.requires.placed c.requires.within c.requires.network in
+    let on_c = burdens C c.args.borne_c.now c.requires.done_c in
+    let on_g = burdens G c.args.borne_g.now c.requires.done_g in
+    let left_c = unborne_is x C m _ c.in_ok-unborne_c.unborne_c.0 on_c c.in_ok-unborne_c.ensures.test c.in_ok-unborne_c.ensures.unborne in
+    let left_g = unborne_is x G m _ c.in_ok-unborne_g.unborne_g.0 on_g c.in_ok-unborne_g.ensures.test c.in_ok-unborne_g.ensures.unborne in
+    let most = loss_small s.monitors_c.0 s.monitors_g.0 s.members_c.0 s.members_g.0 (s.mc, s.mg, s.sc, s.sg) in
+    let over = excess_at ps rule hs m s c.sums_of-sums.ensures r c.charges-charges.ensures in
+    record {
+      tests = then_on_g x m c.requires.network (gives tt)
+          (c.in_ok-unborne_c.ensures.test ∙ ap (λ (z : ℤ). limit_test z m C) on_c)
+          (c.in_ok-unborne_g.ensures.test ∙ ap (λ (z : ℤ). limit_test z m G) on_g);
+      settled = record {
+        done_c = network_done x c.requires.placed C m _ c.args.borne_c.now c.settle.new.borne on_c c.requires.done_c c.in_ok-unborne_c.ensures.shared;
+        done_g = network_done x c.requires.placed G m _ c.args.borne_g.now c.settle-2.new.borne on_g c.requires.done_g c.in_ok-unborne_g.ensures.shared;
+        unborne_c = left_c.0;
+        unborne_g = left_g.0;
+        excess_over = omega (arith, ints, most, c.loss.ensures, c.excess_of-excess.ensures.value, c.excess_of-excess.ensures.small, over);
+        small = record {
+          on_c = left_c.1;
+          on_g = left_g.1;
+          over = omega (arith, ints, c.excess_of-excess.ensures.small);
+        };
+      };
+    }

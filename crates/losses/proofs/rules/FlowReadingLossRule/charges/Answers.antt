@@ -1,4 +1,4 @@
-use Rattle.std.proofs.Common.{◌∙◌, arith}
+use Rattle.std.proofs.Common.{arith}
 use Rattle.std.proofs.lemmas.Int.{ints}
 use Rattle.losses.proofs.Charging.{flow_in, flow_out}
 use Rattle.losses.proofs.rules.FlowReadingLossRule.charges.Goals as goal
