@@ -40,13 +40,13 @@ place_of (TooShort h) = h ∷ []
 place_of (BadText l) = l ∷ []
 
 -- the first number of a place, 0 where it has none
-abbrev pub first_of : List ℕ → ℕ
-first_of [] = 0
-first_of (p ∷ ps) = p
+abbrev pub first_number : List ℕ → ℕ
+first_number [] = 0
+first_number (p ∷ ps) = p
 
 -- "X", a refusal's number and the first number of its place, with single spaces
 abbrev pub report_text : ℕ → List ℕ → List ℕ
-report_text n place = 88 ∷ 32 ∷ (decimal n ++ (32 ∷ decimal (first_of place)))
+report_text n place = 88 ∷ 32 ∷ (decimal n ++ (32 ∷ decimal (first_number place)))
 
 abbrev pub refusal_text : Refusal → List ℕ
 refusal_text e = report_text (number_of e) (place_of e)

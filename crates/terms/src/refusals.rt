@@ -1,6 +1,6 @@
 // Why a call was refused.
 ghost use Rattle.std.specs.Prelude.{◌≡◌, Some};
-ghost use Rattle.terms.specs.Refusals.{first_of, number_of, place_of, refusal_text};
+ghost use Rattle.terms.specs.Refusals.{first_number, number_of, place_of, refusal_text};
 
 use crate::channels::{Channel, Place};
 use std::fmt;
@@ -61,7 +61,7 @@ impl Refusal {
 
     // The first number of the place, 0 where the refusal has none.
     pub fn place(self) -> usize
-        ensures { result ≡ first_of (place_of self) }
+        ensures { result ≡ first_number (place_of self) }
     {
         match self {
             Refusal::UnknownClass { point }

@@ -1,7 +1,7 @@
 -- Going into service.
 use Rattle.std.specs.Prelude.{◌≡◌, ℕ, ◌<◌, true, ◌⊎◌, List, [], ◌∷◌, Ok, Err, Result}
 use Rattle.terms.specs.Answers.{refuses, answered}
-use Rattle.terms.specs.Refusals.{first_of, place_of}
+use Rattle.terms.specs.Refusals.{first_number, place_of}
 use Rattle.terms.specs.declared.refusals.Refusal.{Refusal}
 use Rattle.points.specs.Points.{is_network, members, roots}
 use Rattle.points.specs.Rules.{Complete}
@@ -25,5 +25,5 @@ FirstUnready ps m = Unready ps m × ((k : ℕ) → k < m → Unready ps k → �
 abbrev pub Serviced : List Point → Result (Unit {0}) Refusal → List Point → List Point → Type 0
 Serviced ps (Ok u) before after = Complete ps × (after ≡ ps)
 Serviced ps (Err e) before after =
-    (answered {T = Unit {0}} (Err e) ≡ refuses 5 (first_of (place_of e) ∷ []))
-    × FirstUnready ps (first_of (place_of e)) × (after ≡ before)
+    (answered {T = Unit {0}} (Err e) ≡ refuses 5 (first_number (place_of e) ∷ []))
+    × FirstUnready ps (first_number (place_of e)) × (after ≡ before)

@@ -1,7 +1,7 @@
 -- The tree that a text gives.
 use Rattle.std.proofs.Common.{◌≡◌, ℕ, ◌<◌, ◌≤◌, List, [], ◌∷◌, length, Ok, Err, Result, sym, refl, subst, ⊎_elim, arith}
 use Rattle.terms.specs.Answers.{Answer, gives, refuses}
-use Rattle.terms.specs.Refusals.{first_of, place_of}
+use Rattle.terms.specs.Refusals.{first_number, place_of}
 use Rattle.terms.specs.declared.refusals.Refusal.{Refusal}
 use Rattle.points.specs.Rules.{Complete}
 use Rattle.points.specs.declared.classes.Point.{Point}
@@ -34,7 +34,7 @@ all_ready ps m complete gap =
 serviced_complete : (ps : List Point) (r : Result (Unit {0}) Refusal) (before after : List Point) → Complete ps → Serviced ps r before after
     → (r ≡ Ok tt) × (after ≡ ps)
 serviced_complete ps (Ok u) before after complete s = (refl, s.1)
-serviced_complete ps (Err e) before after complete s = absurd (all_ready ps (first_of (place_of e)) complete s.1.0)
+serviced_complete ps (Err e) before after complete s = absurd (all_ready ps (first_number (place_of e)) complete s.1.0)
 
 -- the text of the points of a tree gives that tree
 pub tree_read : (text : List ℕ) (a : Answer (List Point)) (r : Result (Unit {0}) Refusal) (before after : List Point)

@@ -14,8 +14,8 @@ use Rattle.readings.proofs.hours.integrate_hour.Given as given
 use Rattle.readings.proofs.hours.integrate_hour.Goals as goal
 
 -- the channel of a turn
-abbrev channelAt : ℕ → Channel
-channelAt m = get_or (C ∷ G ∷ []) m C
+abbrev channel_at : ℕ → Channel
+channel_at m = get_or (C ∷ G ∷ []) m C
 
 pub loop-point-init : goal.loop-point-init
 loop-point-init g c = (passed_none _ _, written_none _ _ _, omega arith)
@@ -30,10 +30,10 @@ loop-interval-init g c =
 
 -- the place of this turn has the amount, and it is within the limit
 here : (g : given.Over) (c : goal.In-Ok g)
-    → (g.S.Source.at c.args.source.now (place_at c.loop-point.point (channelAt c.loop-channel.channel-index) c.loop-interval.interval) ≡ Some c.in-Ok.amount)
+    → (g.S.Source.at c.args.source.now (place_at c.loop-point.point (channel_at c.loop-channel.channel-index) c.loop-interval.interval) ≡ Some c.in-Ok.amount)
     × (c.in-Ok.amount ≤ limit)
 here g c =
-    let place = place_at c.loop-point.point (channelAt c.loop-channel.channel-index) c.loop-interval.interval in
+    let place = place_at c.loop-point.point (channel_at c.loop-channel.channel-index) c.loop-interval.interval in
     found (g.S.Source.at c.args.source.now place) c.in-Ok.amount place c.in-Ok.ensures
 
 pub overflow_add-sum : goal.overflow_add-sum
@@ -48,8 +48,8 @@ loop-interval-preserved g c =
     let i = c.loop-interval.interval in
     let is = here g c in
     let start = c.intervals_of-start.ensures.0 in (
-      passed_place at h p (channelAt m) m i _ (ordinal_at m c.loop-channel-test.true) refl (subst Usable (sym is.0) is.1) c.loop-interval.invariant.0,
-      sum_more at h p (channelAt m) i c.in-Ok.amount c.loop-interval.sum (omega arith) is.0 c.loop-interval.invariant.1,
+      passed_place at h p (channel_at m) m i _ (ordinal_at m c.loop-channel-test.true) refl (subst Usable (sym is.0) is.1) c.loop-interval.invariant.0,
+      sum_more at h p (channel_at m) i c.in-Ok.amount c.loop-interval.sum (omega arith) is.0 c.loop-interval.invariant.1,
       omega (arith, is.1, c.loop-interval.invariant.2),
     )
 
@@ -61,10 +61,10 @@ loop-channel-preserved g c =
     let start = c.intervals_of-start.ensures.0 in
     let end = c.intervals_of-start.ensures.1 in
     let twelve : c.loop-interval.interval - 12 * c.args.hour ≡ 12 = omega arith in
-    let total : c.loop-interval.sum ≡ sum_from at c.loop-point.point (channelAt m) (12 * c.args.hour) 12
-    = c.loop-interval.invariant.1 ∙ ap (λ k. sum_from at c.loop-point.point (channelAt m) (12 * c.args.hour) k) twelve in (
+    let total : c.loop-interval.sum ≡ sum_from at c.loop-point.point (channel_at m) (12 * c.args.hour) 12
+    = c.loop-interval.invariant.1 ∙ ap (λ k. sum_from at c.loop-point.point (channel_at m) (12 * c.args.hour) k) twelve in (
       passed_channel at c.args.hour _ _ _ (omega arith) c.loop-interval.invariant.0,
-      written_channel at c.args.hour _ (channelAt m) m _ _ _ _ o c.loop-point.auto.point (c.slot_of.ensures ∙ ap (slot c.loop-point.point) o) (omega (arith, o, c.slot_of.ensures))
+      written_channel at c.args.hour _ (channel_at m) m _ _ _ _ o c.loop-point.auto.point (c.slot_of.ensures ∙ ap (slot c.loop-point.point) o) (omega (arith, o, c.slot_of.ensures))
           (to_z-of_z w64 c.from.result (search rules) ∙ (c.from.ensures ∙ ap pos total)) c.loop-channel.invariant.1,
     )
 
@@ -89,7 +89,7 @@ returns-in-Err g c =
     let e = c.in-Err.refusal in
     let start = c.intervals_of-start.ensures.0 in
     let end = c.intervals_of-start.ensures.1 in
-    let read = first_fault at h (length c.args.hours.now / 2) p (channelAt m) m i (number_of e) (place_of e) c.args.hours.now c.loop-channel.hours
+    let read = first_fault at h (length c.args.hours.now / 2) p (channel_at m) m i (number_of e) (place_of e) c.args.hours.now c.loop-channel.hours
     (ordinal_at m c.loop-channel-test.true) (c.loop-point.auto.point, c.loop-point-test.true, omega arith, omega arith) (sym c.in-Err.ensures) c.loop-interval.invariant.0
     (written_on at h p m _ _ _ c.loop-point.invariant.1 c.loop-channel.invariant.1) in
     record { tests = judged at h _ _ _ (refuses (number_of e) (place_of e)) read; read = read }

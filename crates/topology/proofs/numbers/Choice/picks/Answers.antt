@@ -7,9 +7,9 @@ use Rattle.topology.specs.Numbers.{picks}
 use Rattle.topology.specs.declared.numbers.Choice.{Choice}
 use Rattle.topology.proofs.numbers.Choice.picks.Goals as goal
 
-or-none : (b : Bool) → b ≡ (b || false)
-or-none true = refl
-or-none false = refl
+or_none : (b : Bool) → b ≡ (b || false)
+or_none true = refl
+or_none false = refl
 
 pub returns-in-MembersOf-None : goal.returns-in-MembersOf-None
 returns-in-MembersOf-None c =
@@ -20,6 +20,6 @@ returns-in-MembersOf-None c =
 pub returns-in-Networks-None : goal.returns-in-Networks-None
 returns-in-Networks-None c =
     let none = none_at c.args.points.now c.args.p c.in-Networks-None.ensures in
-    or-none (eqb c.args.p 0)
+    or_none (eqb c.args.p 0)
     ∙ sym (ap (λ (k : Choice). picks c.args.points.now k c.args.p) c.in-Networks-None.is-0
     ∙ ap (λ (q : Point). eqb c.args.p 0 || is_monitor q.class) none)

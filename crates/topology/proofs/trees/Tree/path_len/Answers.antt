@@ -8,14 +8,14 @@ use Rattle.topology.specs.Questions.{path_by}
 use Rattle.topology.specs.Tables.{listed}
 use Rattle.topology.proofs.trees.Tree.path_len.Goals as goal
 
-rule-of : (ps : List Point) → Placed ps → DepthRule ps
-rule-of ps placed = (refl, depth_step ps placed)
+rule_of : (ps : List Point) → Placed ps → DepthRule ps
+rule_of ps placed = (refl, depth_step ps placed)
 
 pub returns-in_err-q : goal.returns-in_err-q
 returns-in_err-q c =
     let ps : List Point = listed c.args.self.now.table in
     let none = none_at ps c.args.member (c.in_err-q.ensures ∙ ap (λ (xs : List Point). point_at xs c.args.member) c.points.ensures) in
-    record { value = c.from_residual.ensures ∙ sym (ap (path_by ps) none); rule = rule-of ps c.args.self.now.placed }
+    record { value = c.from_residual.ensures ∙ sym (ap (path_by ps) none); rule = rule_of ps c.args.self.now.placed }
 
 pub returns : goal.returns
 returns c =
@@ -24,5 +24,5 @@ returns c =
     record {
       value =
           c.path_of.ensures ∙ ap (λ (xs : List Point). path_by xs c.in_ok-q.q) c.points-2.ensures ∙ sym (ap (path_by ps) here.1);
-      rule = rule-of ps c.args.self.now.placed;
+      rule = rule_of ps c.args.self.now.placed;
     }
