@@ -16,7 +16,7 @@ use Rattle.shares.specs.Rules.{Rule, Meaning, sum_limit}
 use Rattle.shares.specs.Runs.{burden_limit, burden_test, limit_test, network_tests}
 use Rattle.shares.proofs.Rules.{charge_small}
 use Rattle.losses.specs.Blocks.{entry, hour_in}
-use Rattle.losses.specs.Charging.{loss_by, Charged}
+use Rattle.losses.specs.Charging.{loss_by, charges_by, Charged}
 use Rattle.losses.specs.Rounds.{Done}
 use Rattle.losses.specs.Sharing.{SumsAt}
 use Rattle.losses.specs.declared.rules.Charges.{Charges}
@@ -77,17 +77,16 @@ module _ (ps : List Point) (rule : Rule) (hs : List ℤ) (m : ℕ) (s : NetworkS
   unfolding loss
   loss_at = rw (ap nat_abs at.monitors_c, ap nat_abs at.monitors_g, ap nat_abs at.members_c, ap nat_abs at.members_g) refl
 
-  -- on either channel the charge is the rule's own at the four sums
-  pub charge_at : (r : Charges) → Charged rule s r → (c : Channel) → charge_on r c ≡ charge (hour_in ps rule hs) c m
-  unfolding charge charges
-  charge_at r by C =
-      by.0
-      ∙ ap (λ (both : ℤ × ℤ). both.0)
-      (by_sums rule _ _ _ _ _ _ _ _ (ap nat_abs at.monitors_c) (ap nat_abs at.monitors_g) (ap nat_abs at.members_c) (ap nat_abs at.members_g))
-  charge_at r by G =
-      by.1
-      ∙ ap (λ (both : ℤ × ℤ). both.1)
-      (by_sums rule _ _ _ _ _ _ _ _ (ap nat_abs at.monitors_c) (ap nat_abs at.monitors_g) (ap nat_abs at.members_c) (ap nat_abs at.members_g))
+  -- the rule is asked at the four sums of the network
+  asked_at : charges_by rule s ≡ charges (hour_in ps rule hs) m
+  unfolding charges
+  asked_at = by_sums rule _ _ _ _ _ _ _ _ (ap nat_abs at.monitors_c) (ap nat_abs at.monitors_g) (ap nat_abs at.members_c) (ap nat_abs at.members_g)
+
+  -- on either channel the charge is the rule's own
+  charge_at : (r : Charges) → Charged rule s r → (c : Channel) → charge_on r c ≡ charge (hour_in ps rule hs) c m
+  unfolding charge
+  charge_at r by C = by.0 ∙ ap (λ (both : ℤ × ℤ). both.0) asked_at
+  charge_at r by G = by.1 ∙ ap (λ (both : ℤ × ℤ). both.1) asked_at
 
   -- with what the monitor bears it is the burden
   pub burden_at : (r : Charges) → Charged rule s r → Placed ps → m ≤ length ps → is_network ps m ≡ true → (c : Channel) (bs : List ℤ)
