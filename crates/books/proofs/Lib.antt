@@ -1,2 +1,3 @@
 pub mod Offsets
+pub mod Puts
 pub mod Rules

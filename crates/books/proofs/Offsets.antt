@@ -1,16 +1,19 @@
 -- Where the places of a book lie, and what a write at one of them leaves.
-use Rattle.std.proofs.Common.{◌≡◌, ℕ, ◌+◌, ◌-◌, ◌*◌, ◌/◌, ◌%◌, ◌<◌, ◌≤◌, Bool, true, false, cond, ◌⊎◌, List, length, get_or, Some, None, sym, refl, ap, ◌∙◌, inl, inr, arith}
+use Rattle.std.proofs.Common.{◌≡◌, ℕ, ◌+◌, ◌-◌, ◌*◌, ◌/◌, ◌%◌, ◌<◌, ◌≤◌, Bool, true, false, cond, ◌⊎◌, List, length, get_or, Some, None, Option, IfSome, sym, refl, ap, ◌∙◌, subst, inl, inr, arith, w32}
 use lib.Arith.{digits_lt, digits_div, digits_mod}
+use Rattle.std.specs.Int.{to_be_bytes}
 use Rattle.std.proofs.lemmas.Bool.{cases_lt}
 use Rattle.std.proofs.lemmas.Bool.Decides.{nat_tests}
+use borrow.Rule.Slice.PartMut.{put_mid}
 use Rattle.terms.specs.declared.channels.Channel.{Channel}
 use Rattle.terms.specs.declared.channels.Channel.TheVariants.{C, G}
 use Rattle.terms.specs.declared.channels.Place.{Place}
 use Rattle.terms.proofs.Places.{same_place}
 use Rattle.readings.specs.Places.{limit, Corrected}
-use Rattle.books.specs.Books.{header_of, lawful, lawful_header, holds, block_of, offset, entry, amount_by, book_at}
+use Rattle.books.specs.Books.{header_of, lawful, lawful_header, holds, block_of, offset, offset_in, entry, amount_by, book_at, KeptBut}
 use Rattle.books.specs.Bytes.{word, long}
 use Rattle.books.specs.declared.headers.Header.{Header}
+use Rattle.books.proofs.Puts.{Put, put}
 use Rattle.books.proofs.Rules.{Rules, Inside, inside_by, was_read}
 
 -- equal bytes make equal numbers
@@ -75,23 +78,46 @@ module _ (len : ℕ) (x : Header) (r : Rules len x) where
   offset_apart p q h k ne = apart_on p.channel q.channel p q h k (λ s. ne (same_place q p s.0 s.1 s.2))
 
 -- the amount of a place lies inside the bytes
-pub offset_inside : (bs : List ℕ) (x : Header) (p : Place) → Some x ≡ lawful_header bs → holds x p ≡ true → offset x p + 4 ≤ length bs
+offset_inside : (bs : List ℕ) (x : Header) (p : Place) → Some x ≡ lawful_header bs → holds x p ≡ true → offset x p + 4 ≤ length bs
 offset_inside bs x p read inside =
     let r = (was_read bs x read).1 in
     omega (arith, block_fits (length bs) x r p.channel, index_lt (length bs) x r p (inside_by x p inside))
+
+-- the header that has a place
+record Found (bs : List ℕ) (p : Place) (at : ℕ) : Type 0 where
+  pub header : Header
+  pub read : Some header ≡ lawful_header bs
+  pub inside : holds header p ≡ true
+  pub begins : at ≡ offset header p
+
+found : (bs : List ℕ) (p : Place) (at : ℕ) → Some at ≡ offset_in (lawful_header bs) p → Found bs p at
+found bs p at e = go (lawful_header bs) refl e
+  where
+    go : (o : Option Header) → o ≡ lawful_header bs → Some at ≡ offset_in o p → Found bs p at
+    go None read f = let z : ◌≡◌ {A = ℕ} 0 1 = cc in absurd (omega arith)
+    go (Some x) read f = by (holds x p) refl f
+      where
+        by : (t : Bool) → holds x p ≡ t → Some at ≡ cond t (Some (offset x p)) None → Found bs p at
+        by true h g = record { header = x; read = read; inside = h; begins = cc }
+        by false h g = let z : ◌≡◌ {A = ℕ} 0 1 = cc in absurd (omega arith)
+
+at_inside : (bs : List ℕ) (p : Place) (at : ℕ) → Some at ≡ offset_in (lawful_header bs) p → at + 4 ≤ length bs
+at_inside bs p at e = let f = found bs p at e in omega (arith, f.begins, offset_inside bs f.header p f.read f.inside)
+
+pub offset_fits : (bs : List ℕ) (p : Place) (o : Option ℕ) → o ≡ offset_in (lawful_header bs) p → IfSome o (λ at. at + 4 ≤ length bs)
+offset_fits bs p None e = tt
+offset_fits bs p (Some at) e = at_inside bs p at e
 
 entry_some : (v : ℕ) → v ≤ limit → entry v ≡ Some v
 entry_some v h = grind (arith, nat_tests)
 
 -- a book with an amount v written at a place is xs
-module _ (xs bs : List ℕ) (x : Header) (p : Place) (v : ℕ) (read : Some x ≡ lawful_header bs) (inside : holds x p ≡ true)
-    (len : length xs ≡ length bs) (here : long xs (offset x p) ≡ v)
-    (others : (k : ℕ) → (k < offset x p) ⊎ (offset x p + 4 ≤ k) → get_or xs k 0 ≡ get_or bs k 0) where
+module _ (bs xs : List ℕ) (x : Header) (p : Place) (v : ℕ) (read : Some x ≡ lawful_header bs) (inside : holds x p ≡ true) (put : Put (offset x p) v bs xs) where
   rules_of : Rules (length bs) x
   rules_of = (was_read bs x read).1
 
   head_same : (k : ℕ) → k < 12 → get_or xs k 0 ≡ get_or bs k 0
-  head_same k low = others k (inl (omega (arith, block_low (length bs) x rules_of p.channel)))
+  head_same k low = put.others k (inl (omega (arith, block_low (length bs) x rules_of p.channel)))
 
   header_same : header_of xs ≡ header_of bs
   header_same =
@@ -101,9 +127,9 @@ module _ (xs bs : List ℕ) (x : Header) (p : Place) (v : ℕ) (read : Some x �
       let g = long_same xs bs 8 (λ j a b. head_same j (omega arith)) in
       cc
 
-  pub header_kept : lawful_header xs ≡ lawful_header bs
+  header_kept : lawful_header xs ≡ lawful_header bs
   header_kept =
-      ap (λ n. cond (lawful n (header_of xs)) (Some (header_of xs)) None) len
+      ap (λ n. cond (lawful n (header_of xs)) (Some (header_of xs)) None) put.len
       ∙ ap (λ h. cond (lawful (length bs) h) (Some h) None) header_same
 
   -- what the two books have at a place, by the one header
@@ -118,12 +144,32 @@ module _ (xs bs : List ℕ) (x : Header) (p : Place) (v : ℕ) (read : Some x �
   other_same : (q : Place) → (q ≡ p → ⊥) → (t : Bool) → holds x q ≡ t
       → cond t (entry (long xs (offset x q))) None ≡ cond t (entry (long bs (offset x q))) None
   other_same q ne true h =
-      ap entry (long_same xs bs (offset x q) (λ k low high. others k
+      ap entry (long_same xs bs (offset x q) (λ k low high. put.others k
       (elim (offset_apart (length bs) x rules_of p q (inside_by x p inside) (inside_by x q h) ne) [ inl before ↦ inl (omega arith) | inr after ↦ inr (omega arith) ])))
   other_same q ne false h = refl
 
-  pub corrected : v ≤ limit → Corrected (book_at bs) (book_at xs) p v
+  corrected : v ≤ limit → Corrected (book_at bs) (book_at xs) p v
   corrected low = record {
-    here = after_is p ∙ (ap (λ t. cond t (entry (long xs (offset x p))) None) inside ∙ (ap entry here ∙ entry_some v low));
+    here = after_is p ∙ (ap (λ t. cond t (entry (long xs (offset x p))) None) inside ∙ (ap entry put.here ∙ entry_some v low));
     others = λ q ne. after_is q ∙ (other_same q ne (holds x q) refl ∙ sym (before_is q));
   }
+
+  kept : KeptBut p bs xs
+  kept = record { bytes = subst (λ h. (k : ℕ) → (k < offset h p) ⊎ (offset h p + 4 ≤ k) → get_or xs k 0 ≡ get_or bs k 0) (was_read bs x read).0 put.others }
+
+-- what a write of an amount at a place does to a book
+pub record Rewritten (bs xs : List ℕ) (p : Place) (v : ℕ) : Type 0 where
+  pub header : lawful_header xs ≡ lawful_header bs
+  pub places : Corrected (book_at bs) (book_at xs) p v
+  pub kept : KeptBut p bs xs
+
+pub rewritten : (bs ys : List ℕ) (p : Place) (at v : ℕ) → Some at ≡ offset_in (lawful_header bs) p → v ≤ limit → ys ≡ to_be_bytes w32 v
+    → Rewritten bs (put_mid at (at + 4 - at) bs ys) p v
+rewritten bs ys p at v e low amount =
+    let f = found bs p at e in
+    let there : Put (offset f.header p) v bs (put_mid at (at + 4 - at) bs ys) = subst (λ o. Put o v bs (put_mid at (at + 4 - at) bs ys)) f.begins (put at v bs ys (at_inside bs p at e) low amount) in
+    record {
+      header = header_kept bs _ f.header p v f.read f.inside there;
+      places = corrected bs _ f.header p v f.read f.inside there low;
+      kept = kept bs _ f.header p v f.read f.inside there;
+    }

@@ -1,6 +1,6 @@
 -- The layout of a book: a header of 12 bytes, and a block of amounts for each channel, wherever the
 -- header puts it.
-use Rattle.std.specs.Prelude.{◌≡◌, ℕ, ◌+◌, ◌-◌, ◌*◌, ◌%◌, ◌<◌, ◌≤◌, Bool, false, cond, ◌&&◌, ◌||◌, ◌⊎◌, List, [], length, Some, None, Option, ◌==◌, nat_le, nat_lt, slice_index}
+use Rattle.std.specs.Prelude.{◌≡◌, ℕ, ◌+◌, ◌-◌, ◌*◌, ◌%◌, ◌<◌, ◌≤◌, Bool, false, if◌then◌else◌, ◌&&◌, ◌||◌, ◌⊎◌, List, [], length, Some, None, Option, ◌==◌, nat_le, nat_lt, slice_index}
 use Rattle.terms.specs.Answers.{Answer, gives, tested}
 use Rattle.terms.specs.declared.channels.Channel.{Channel}
 use Rattle.terms.specs.declared.channels.Channel.TheVariants.{C, G}
@@ -32,7 +32,7 @@ well_formed bs = lawful (length bs) (header_of bs)
 
 -- the header of a book that keeps every rule
 abbrev pub lawful_header : List ℕ → Option Header
-lawful_header bs = cond (well_formed bs) (Some (header_of bs)) None
+lawful_header bs = if well_formed bs then Some (header_of bs) else None
 
 -- the points 1 to n and the intervals 0 to t - 1
 abbrev pub holds : Header → Place → Bool
@@ -46,9 +46,14 @@ block_of x G = x.g
 abbrev pub offset : Header → Place → ℕ
 offset x p = block_of x p.channel + 4 * ((p.point - 1) * x.intervals + p.interval)
 
+-- the same, if a book with this header has the place
+abbrev pub offset_in : Option Header → Place → Option ℕ
+offset_in None p = None
+offset_in (Some x) p = if holds x p then Some (offset x p) else None
+
 -- FFFFFFFF means nothing
 abbrev pub entry : ℕ → Option ℕ
-entry v = cond (v == 0xffffffff) None (Some v)
+entry v = if v == 0xffffffff then None else Some v
 
 -- the places of a book with this header; where a rule is broken there is none
 abbrev pub places_by : Option Header → Place → Bool
@@ -58,7 +63,7 @@ places_by (Some x) p = holds x p
 -- what the bytes of a book with this header have at a place
 abbrev pub amount_by : List ℕ → Option Header → Place → Option ℕ
 amount_by bs None p = None
-amount_by bs (Some x) p = cond (holds x p) (entry (long bs (offset x p))) None
+amount_by bs (Some x) p = if holds x p then entry (long bs (offset x p)) else None
 
 -- the places of a book
 abbrev pub extent : List ℕ → Place → Bool

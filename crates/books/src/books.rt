@@ -19,7 +19,9 @@ pub struct Book<'a> {
     ghost read: { header ≡ lawful_header bytes.now },
 }
 
-// A book over bytes that corrections write to. It has no invariant, so that it can stand in a pile.
+// A book over bytes that corrections write to. It is no `Book` of another reference: a lender learns what is said of
+// the `&mut` itself (`tied`), which a type parameter would hide. It keeps no header under an invariant: with one (tried)
+// the check covers no array of working books. `as_book` is a view that reads the header once.
 #[derive(Drop)]
 pub struct WorkingBook<'a> {
     bytes: &'a mut [u8],

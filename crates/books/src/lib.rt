@@ -2,8 +2,6 @@
 #![tactic(auto)]
 
 mod books;
-mod bytes;
 mod headers;
-mod places;
 
 pub use books::{Book, WorkingBook, book_check};

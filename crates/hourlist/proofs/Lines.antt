@@ -1,17 +1,9 @@
 -- The lines of points.
-use Rattle.std.proofs.Common.{◌≡◌, ℕ, zero, suc, ◌+◌, ◌≤◌, List, [], ◌∷◌, ◌++◌, length, get_or, ℤ, sym, refl, ap, ◌∙◌, add-one, arith}
+use Rattle.std.proofs.Common.{◌≡◌, ℕ, zero, suc, ◌≤◌, List, length, ℤ, refl, ◌∙◌, arith}
 use Rattle.terms.specs.Answers.{Answer, gives, refuses}
-use Rattle.terms.specs.Refusals.{report_text}
 use Rattle.terms.specs.declared.channels.Channel.TheVariants.{C, G}
-use Rattle.points.specs.Points.{no_point}
 use Rattle.points.specs.declared.classes.Point.{Point}
-use Rattle.hourlist.specs.Lists.{lines_to, point_line, in_book, standing, HoursOf, printed_hour}
-
-pub lines_more : (ps : List Point) (c g : ℕ → ℤ) (i : ℕ)
-    → lines_to ps c g (i + 1) ≡ lines_to ps c g i ++ point_line (i + 1) (get_or ps i no_point).class (c (i + 1)) (g (i + 1))
-lines_more ps c g i =
-    ap (lines_to ps c g) (add-one i)
-    ∙ ap (λ (n : ℕ). lines_to ps c g i ++ point_line n (get_or ps i no_point).class (c n) (g n)) (sym (add-one i))
+use Rattle.hourlist.specs.Lists.{lines_to, in_book, standing, HoursOf, printed_hour}
 
 -- equal hour values make equal lines
 pub lines_same : (ps : List Point) (c g d h : ℕ → ℤ) (n : ℕ) → ((p : ℕ) → 1 ≤ p → p ≤ n → c p ≡ d p) → ((p : ℕ) → 1 ≤ p → p ≤ n → g p ≡ h p)
@@ -23,13 +15,9 @@ lines_same ps c g d h (suc n) ec eg =
     let on_g : g (suc n) ≡ h (suc n) = eg (suc n) (omega arith) (omega arith) in
     cc
 
--- what is printed where every test passed, and where one refused
+-- what is printed where every test passed
 pub printed_lines : (a : Answer (Unit {0})) (ps : List Point) (book bytes : List ℕ) (hours : List ℤ) → gives tt ≡ a → HoursOf book (length ps) hours
     → bytes ≡ lines_to ps (standing hours C) (standing hours G) (length ps) → bytes ≡ printed_hour a ps book
 printed_lines (gives u) ps book bytes hours e h s =
     s ∙ lines_same ps _ _ (in_book book C) (in_book book G) (length ps) (λ p low high. h p C low high) (λ p low high. h p G low high)
 printed_lines (refuses n place) ps book bytes hours e h s = let z : ◌≡◌ {A = ℕ} 0 1 = cc in absurd (omega arith)
-
-pub printed_report : (a : Answer (Unit {0})) (ps : List Point) (book bytes : List ℕ) (n : ℕ) (place : List ℕ) → refuses n place ≡ a
-    → bytes ≡ report_text n place ++ (10 ∷ []) → bytes ≡ printed_hour a ps book
-printed_report a ps book bytes n place e s = rw (sym e) s

@@ -5,18 +5,15 @@ ghost use Rattle.terms.specs.declared.channels.Channel.TheVariants.{C as OnC, G 
 ghost use Rattle.hourlist.specs.Lists.{first_hour, HoursOf, lines_to, Listed, point_line, printed_hour, standing};
 
 use books::Book;
-use points::{Class, Point};
+use points::Point;
 use readings::{hour_value, integrate_hour};
 use std::alloc::{AllocError, Global};
 use terms::{Amount, AmountC, AmountG, Mwh, Refusal};
 use topology::Tree;
-use treetext::read_tree;
+use treetext::{ReadError, read_tree};
 
 // The most bytes that the program takes for a book.
 const BOOK_LIMIT: usize = 60_000;
-
-// Two hour values for each of at most 128 points.
-const HOUR_VALUES: usize = 256;
 
 // Checks the book, and puts the hour values of hour 0 into the lent numbers.
 fn first_hour(book: &[u8], hours: &mut [i64]) -> Result<(), Refusal>
@@ -30,33 +27,20 @@ fn first_hour(book: &[u8], hours: &mut [i64]) -> Result<(), Refusal>
     integrate_hour(&Book::new(book), 0, hours)
 }
 
-// The number of a point, its class, its hour C and its hour G.
-fn point_line(
-    heap: Global,
-    number: usize,
-    class: Class,
-    hours: &[i64],
-) -> Result<String, AllocError>
-    requires from_one { 1 ≤ number }
-    requires room { 2 * number ≤ length hours.now }
-    ensures { IfOk result (λ s. string_bytes s ≡ point_line number class (standing hours.now OnC number) (standing hours.now OnG number)) }
-{
-    let consumed: AmountC = hour_value(hours, number).unwrap();
-    let generated: AmountG = hour_value(hours, number).unwrap();
-    let c = Mwh(consumed.wh());
-    let g = Mwh(generated.wh());
-    format!(in heap; "{number} {class} {c} {g}\n")
-}
-
-// A line for each point.
+// A line for each point: its number, its class, its hour C and its hour G.
 fn hour_lines(heap: Global, points: &[Point], hours: &[i64]) -> Result<String, AllocError>
     requires { length hours.now ≡ 2 * length points.now }
     ensures { IfOk result (λ s. string_bytes s ≡ lines_to points.now (standing hours.now OnC) (standing hours.now OnG) (length points.now)) }
 {
     let mut text = String::new(heap);
     for (i, point) in points.iter().enumerate() {
-        let line = point_line(heap, i + 1, point.class, hours)?;
-        text.push_str(line.as_str())?;
+        let number = i + 1;
+        let class = point.class;
+        let consumed: AmountC = hour_value(hours, number).unwrap();
+        let generated: AmountG = hour_value(hours, number).unwrap();
+        let c = Mwh(consumed.wh());
+        let g = Mwh(generated.wh());
+        write!(text, "{number} {class} {c} {g}\n")?;
     }
     Ok(text)
 }
@@ -83,12 +67,12 @@ pub fn hour_listing(heap: Global, text: &[u8], book: &[u8]) -> Result<String, Al
     ensures { IfOk result (λ s. Listed text.now book.now (string_bytes s)) }
 {
     let mut tree = Tree::built_in(heap)?;
-    match read_tree(heap, text, &mut tree)? {
+    match read_tree(heap, text, &mut tree) {
         Ok(()) => {
-            let mut hours = [0; HOUR_VALUES];
-            let used = &mut hours[0..2 * tree.point_count()];
-            hour_of(heap, tree.points(), book, used)
+            let mut hours = vec![in heap; 0; 2 * tree.point_count()]?;
+            hour_of(heap, tree.points(), book, hours.as_mut_slice())
         }
-        Err(refusal) => format!(in heap; "{refusal}\n"),
+        Err(ReadError::Refused(refusal)) => format!(in heap; "{refusal}\n"),
+        Err(ReadError::OutOfMemory(error)) => Err(error),
     }
 }

@@ -1,6 +1,4 @@
-pub mod Burdens
 pub mod Charging
-pub mod Dividing
 pub mod Rounds
 pub mod Settling
 pub mod Summing

@@ -6,23 +6,16 @@ use Rattle.terms.specs.declared.channels.Channel.{Channel}
 use Rattle.points.specs.Classes.{is_member, is_monitor}
 use Rattle.points.specs.Points.{class_of, parent_of, joins, is_network}
 use Rattle.points.specs.Rules.{Placed}
-use Rattle.points.specs.declared.classes.Class.{Class}
-use Rattle.points.specs.declared.classes.Class.TheVariants.{Root, Member, Monitor, Embedded}
 use Rattle.points.specs.declared.classes.Point.{Point}
 use Rattle.points.proofs.Depths.{parent_earlier}
 use Rattle.points.proofs.Parents.{joins_parts, member_names}
 use Rattle.shares.specs.Carry.{share, burden_by}
 use Rattle.shares.specs.Hours.{Hour, charge, borne, burden}
+use Rattle.shares.proofs.Expanded.{monitor_member}
 use Rattle.shares.proofs.Passing.{carried}
 use Rattle.losses.specs.Blocks.{entry}
 use Rattle.losses.specs.Rounds.{Done}
 use Rattle.losses.specs.Sharing.{SharedOut}
-
-monitor_is_member : (c : Class) → is_monitor c ≡ true → is_member c ≡ true
-monitor_is_member Root e = absurd (false≢true e)
-monitor_is_member Member e = refl
-monitor_is_member Monitor e = refl
-monitor_is_member Embedded e = absurd (false≢true e)
 
 -- a network but the main one has a monitor
 pub has_monitor : (ps : List Point) (i : ℕ) → is_network ps (suc i) ≡ true → is_monitor (class_of ps (suc i)) ≡ true
@@ -57,7 +50,7 @@ module _ (x : Hour) (placed : Placed x.points) (c : Channel) where
   burden_entry zero bs within network done = omega (arith, ints)
   burden_entry (suc i) bs within network done =
       let monitor = has_monitor x.points i network in
-      let test = and_from (is_member (class_of x.points (suc i))) (ltb (parent_of x.points (suc i)) (suc i)) (monitor_is_member (class_of x.points (suc i)) monitor)
+      let test = and_from (is_member (class_of x.points (suc i))) (ltb (parent_of x.points (suc i)) (suc i)) (monitor_member (class_of x.points (suc i)) monitor)
       (lt-ltb (parent_of x.points (suc i)) (suc i) (parent_earlier x.points placed (suc i) (omega arith))) in
       ap (λ (z : ℤ). charge x c (suc i) +ℤ z) (done i (omega arith) ∙ cond-true _ (borne x c (suc i)) (pos 0) test)
 

@@ -1,5 +1,5 @@
 -- Settling one network: its tests, its charges and what it leaves, by the hour that stands among the lent numbers.
-use Rattle.std.proofs.Common.{◌≡◌, ℕ, zero, suc, ◌*◌, ◌≤◌, true, leb, List, [], ◌∷◌, ℤ, ◌+ℤ◌, ◌-ℤ◌, nat_abs, sym, refl, ap, ◌∙◌, ⊎_elim, subst, length, arith}
+use Rattle.std.proofs.Common.{◌≡◌, ℕ, zero, suc, ◌*◌, ◌≤◌, true, leb, List, [], ◌∷◌, ℤ, ◌+ℤ◌, ◌-ℤ◌, nat_abs, sym, refl, ap, ◌∙◌, ⊎_elim, subst, arith}
 use Rattle.std.proofs.lemmas.Int.{ints}
 use Rattle.std.proofs.lemmas.Bool.{cases_Bool, cond-true, cond-false, leb-true}
 use Rattle.terms.specs.Answers.{Answer, gives, refuses, ◌thereafter◌}
@@ -7,21 +7,18 @@ use Rattle.terms.specs.Channels.{ordinal}
 use Rattle.terms.specs.declared.channels.Channel.{Channel}
 use Rattle.terms.specs.declared.channels.Channel.TheVariants.{C, G}
 use Rattle.points.specs.Points.{is_network}
-use Rattle.points.specs.Rules.{Placed}
-use Rattle.points.specs.declared.classes.Point.{Point}
 use Rattle.shares.specs.Carry.{left_over}
 use Rattle.shares.specs.Hours.{Hour, loss, charges, charge, burden, excess_of, unborne_of}
 use Rattle.shares.specs.Trees.{member_sum}
-use Rattle.shares.specs.Rules.{Rule, Meaning, sum_limit}
+use Rattle.shares.specs.Rules.{Rule}
 use Rattle.shares.specs.Runs.{burden_limit, burden_test, limit_test, network_tests}
-use Rattle.shares.proofs.Rules.{charge_small}
-use Rattle.losses.specs.Blocks.{entry, hour_in}
+use Rattle.losses.specs.Blocks.{entry}
 use Rattle.losses.specs.Charging.{loss_by, charges_by, Charged}
 use Rattle.losses.specs.Rounds.{Done}
-use Rattle.losses.specs.Sharing.{SumsAt}
+use Rattle.losses.specs.Metered.{hour_by, SumsAt}
+use Rattle.losses.specs.declared.hours.Network.{Network}
 use Rattle.losses.specs.declared.rules.Charges.{Charges}
 use Rattle.losses.specs.declared.sums.NetworkSums.{NetworkSums}
-use Rattle.losses.proofs.Charging.{loss_small}
 use Rattle.losses.proofs.Rounds.{burden_entry}
 
 -- ---- the tests of a network, C before G
@@ -72,37 +69,27 @@ charge_on r G = r.g.0
 by_sums : (rule : Rule) (mc mg sc sg mc' mg' sc' sg' : ℕ) → mc ≡ mc' → mg ≡ mg' → sc ≡ sc' → sg ≡ sg' → rule mc mg sc sg ≡ rule mc' mg' sc' sg'
 by_sums rule mc mg sc sg mc' mg' sc' sg' a b c d = cc
 
-module _ (ps : List Point) (rule : Rule) (hs : List ℤ) (m : ℕ) (s : NetworkSums) (at : SumsAt ps hs m s) where
-  pub loss_at : loss_by s ≡ loss (hour_in ps rule hs) m
+module _ (n : Network) (rule : Rule) (s : NetworkSums) (at : SumsAt n s) (r : Charges) (by : Charged rule s r) where
+  loss_at : loss_by s ≡ loss (hour_by rule n.hour) n.number
   unfolding loss
   loss_at = rw (ap nat_abs at.monitors_c, ap nat_abs at.monitors_g, ap nat_abs at.members_c, ap nat_abs at.members_g) refl
 
   -- the rule is asked at the four sums of the network
-  asked_at : charges_by rule s ≡ charges (hour_in ps rule hs) m
+  asked_at : charges_by rule s ≡ charges (hour_by rule n.hour) n.number
   unfolding charges
   asked_at = by_sums rule _ _ _ _ _ _ _ _ (ap nat_abs at.monitors_c) (ap nat_abs at.monitors_g) (ap nat_abs at.members_c) (ap nat_abs at.members_g)
 
   -- on either channel the charge is the rule's own
-  charge_at : (r : Charges) → Charged rule s r → (c : Channel) → charge_on r c ≡ charge (hour_in ps rule hs) c m
+  charge_at : (c : Channel) → charge_on r c ≡ charge (hour_by rule n.hour) c n.number
   unfolding charge
-  charge_at r by C = by.0 ∙ ap (λ (both : ℤ × ℤ). both.0) asked_at
-  charge_at r by G = by.1 ∙ ap (λ (both : ℤ × ℤ). both.1) asked_at
+  charge_at C = by.0 ∙ ap (λ (both : ℤ × ℤ). both.0) asked_at
+  charge_at G = by.1 ∙ ap (λ (both : ℤ × ℤ). both.1) asked_at
 
   -- with what the monitor bears it is the burden
-  pub burden_at : (r : Charges) → Charged rule s r → Placed ps → m ≤ length ps → is_network ps m ≡ true → (c : Channel) (bs : List ℤ)
-      → Done (hour_in ps rule hs) c m bs → charge_on r c +ℤ entry bs m ≡ burden (hour_in ps rule hs) c m
-  burden_at r by placed within network c bs done =
-      ap (λ (z : ℤ). z +ℤ entry bs m) (charge_at r by c) ∙ burden_entry (hour_in ps rule hs) placed c m bs within network done
+  pub burden_at : (c : Channel) (bs : List ℤ) → Done (hour_by rule n.hour) c n.number bs → charge_on r c +ℤ entry bs n.number ≡ burden (hour_by rule n.hour) c n.number
+  burden_at c bs done =
+      ap (λ (z : ℤ). z +ℤ entry bs n.number) (charge_at c) ∙ burden_entry (hour_by rule n.hour) n.hour.placed c n.number bs n.within n.network done
 
-  pub excess_at : (r : Charges) → Charged rule s r → ((r.c.0 +ℤ r.g.0) -ℤ loss_by s) ≡ excess_of (hour_in ps rule hs) m
+  pub excess_at : ((r.c.0 +ℤ r.g.0) -ℤ loss_by s) ≡ excess_of (hour_by rule n.hour) n.number
   unfolding excess_of
-  excess_at r by = rw (charge_at r by C, charge_at r by G, loss_at) refl
-
--- no charge by a rule is beyond what the loss may be
-pub charged_small : (rule : Rule) → Meaning rule → (s : NetworkSums) (r : Charges) → Charged rule s r
-    → (nat_abs r.c.0 ≤ 4 * sum_limit) × (nat_abs r.g.0 ≤ 4 * sum_limit)
-charged_small rule meaning s r by =
-    let most = loss_small s.monitors_c.0 s.monitors_g.0 s.members_c.0 s.members_g.0 (s.mc, s.mg, s.sc, s.sg) in
-    let both = charge_small (loss_by s) _ (meaning (nat_abs s.monitors_c.0) (nat_abs s.monitors_g.0) (nat_abs s.members_c.0) (nat_abs s.members_g.0)
-    (omega (arith, ints, s.mc)) (omega (arith, ints, s.mg)) (omega (arith, ints, s.sc)) (omega (arith, ints, s.sg))) in
-    (omega (arith, most, both.0, ap nat_abs by.0), omega (arith, most, both.1, ap nat_abs by.1))
+  excess_at = rw (charge_at C, charge_at G, loss_at) refl

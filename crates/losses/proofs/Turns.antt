@@ -38,19 +38,26 @@ module _ (ps : List Point) (h : ℕ → ℕ) (m : ℕ) (z : ℤ) (total : ℕ) (
   unfolding carry
   carry_next t e = rw add-one (ap (λ (b : Bool). cond b ((nat_abs z * h (suc i) + carry ps h m (nat_abs z) i) % member_sum ps h m) (carry ps h m (nat_abs z) i)) e)
 
+  -- the share s and the carry behind it are found by a number v, which is the hour value
   pub share_yes :
-      (s : ℤ) (rest : ℕ) → joins ps m (suc i) ≡ true → i < length new → Sharing ps h m z total old new carried i
-      → s ≡ quota total z (nat_abs z * h (suc i) + carried) → (0 < total → rest ≡ (nat_abs z * h (suc i) + carried) % total) → (total ≡ 0 → rest ≡ carried)
+      (s : ℤ) (v rest : ℕ) → v ≡ h (suc i) → joins ps m (suc i) ≡ true → i < length new → Sharing ps h m z total old new carried i
+      → s ≡ quota total z (nat_abs z * v + carried) → (0 < total → rest ≡ (nat_abs z * v + carried) % total) → (total ≡ 0 → rest ≡ carried)
       → Sharing ps h m z total old (set new i s) rest (i + 1)
-  share_yes s rest joined inside inv s-is rest_is none = record {
+  share_yes s v rest v-is joined inside inv s-is rest_is none = record {
     shared = below_more (λ k. get_or (set new i s) k (pos 0) ≡ cond (joins ps m (suc k)) (share ps h m z (suc k)) (get_or old k (pos 0))) i
         (λ k low. let ne : k ≢ i = omega arith in get_or-set_other new i k s (pos 0) ne ∙ inv.shared k low)
-        (get_or-set_same new i s (pos 0) inside ∙ s-is ∙ share_is inv.some ∙ sym (ap (λ (t : Bool). cond t (share ps h m z (suc i)) (get_or old i (pos 0))) joined));
+        (get_or-set_same new i s (pos 0) inside ∙ s-is ∙ quota_by ∙ share_is inv.some ∙ sym (ap (λ (t : Bool). cond t (share ps h m z (suc i)) (get_or old i (pos 0))) joined));
     others = λ k high. let ne : k ≢ i = omega arith in get_or-set_other new i k s (pos 0) ne ∙ inv.others k (omega arith);
-    some = λ is. rest_is is ∙ ap (λ (c : ℕ). (nat_abs z * h (suc i) + c) % total) (inv.some is)
+    some = λ is. rest_is is ∙ ap (λ (t : ℕ). t % total) whole ∙ ap (λ (c : ℕ). (nat_abs z * h (suc i) + c) % total) (inv.some is)
         ∙ ap (λ (d : ℕ). (nat_abs z * h (suc i) + carry ps h m (nat_abs z) i) % d) is_sum ∙ sym (carry_next true joined);
     none = λ e. none e ∙ inv.none e;
   }
+    where
+      whole : nat_abs z * v + carried ≡ nat_abs z * h (suc i) + carried
+      whole = cc
+
+      quota_by : quota total z (nat_abs z * v + carried) ≡ quota total z (nat_abs z * h (suc i) + carried)
+      quota_by = cc
 
   pub share_no : joins ps m (suc i) ≡ false → Sharing ps h m z total old new carried i → Sharing ps h m z total old new carried (i + 1)
   share_no apart inv = record {

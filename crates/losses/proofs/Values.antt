@@ -1,21 +1,24 @@
--- The hour values that stand among lent numbers.
-use Rattle.std.proofs.Common.{◌≡◌, ℕ, zero, suc, ◌≤◌, List, ℤ, pos, refl, arith}
+-- How large the hour values and the sums of a network are.
+use Rattle.std.proofs.Common.{◌≡◌, ℕ, zero, suc, ◌≤◌, ℤ, pos, arith}
 use Rattle.terms.specs.declared.channels.Channel.{Channel}
 use Rattle.readings.specs.Hours.{hour_most}
 use Rattle.shares.specs.Rules.{sum_limit}
+use Rattle.shares.proofs.Counts.{members_limit, monitors_limit}
 use Rattle.std.proofs.lemmas.Int.{ints}
 use Rattle.losses.specs.Limits.{IsSum}
-use Rattle.losses.specs.Blocks.{standing, values_in, Hourly}
-use Rattle.losses.proofs.Charging.{whole_is}
+use Rattle.losses.specs.Metered.{members_on, monitors_on, values_on}
+use Rattle.losses.specs.declared.hours.MeteredHour.{MeteredHour}
+use Rattle.losses.specs.declared.hours.Network.{Network}
 
-module _ (hs : List ℤ) (hourly : Hourly hs) (c : Channel) where
-  pub value_small : (p : ℕ) → values_in hs c p ≤ hour_most
-  value_small zero = omega arith
-  value_small (suc k) = (hourly _).1
+value_small : (c : Channel) (x : MeteredHour) (p : ℕ) → values_on c x p ≤ hour_most
+value_small c x zero = omega arith
+value_small c x (suc k) = (x.hourly _).1
 
-  pub value_is : (p : ℕ) → standing hs c p ≡ pos (values_in hs c p)
-  value_is zero = refl
-  value_is (suc k) = let e = whole_is (standing hs c (suc k)) (hourly _).0 in cc
+pub members_small : (c : Channel) (n : Network) → members_on c n ≤ sum_limit
+members_small c n = members_limit n.hour.points.now n.hour.limited (values_on c n.hour) (value_small c n.hour) n.number
+
+pub monitors_small : (c : Channel) (n : Network) → monitors_on c n ≤ sum_limit
+monitors_small c n = monitors_limit n.hour.points.now n.hour.limited (values_on c n.hour) (value_small c n.hour) n.number
 
 -- a number that is the sum of a network
 pub is_sum : (z : ℤ) (n : ℕ) → z ≡ pos n → n ≤ sum_limit → IsSum z

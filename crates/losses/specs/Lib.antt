@@ -1,7 +1,7 @@
 pub mod Blocks
 pub mod Charging
 pub mod Finals
-pub mod Groups
 pub mod Limits
+pub mod Metered
 pub mod Rounds
 pub mod Sharing

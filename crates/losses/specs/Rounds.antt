@@ -1,5 +1,5 @@
 -- How far a run has come with the networks of an hour.
-use Rattle.std.specs.Prelude.{◌≡◌, ℕ, suc, ◌*◌, ◌<◌, ◌≤◌, cond, ◌&&◌, List, length, ℤ, pos, nat_lt, slice_index_or, unsigned_abs}
+use Rattle.std.specs.Prelude.{◌≡◌, ℕ, suc, ◌*◌, ◌<◌, ◌≤◌, if◌then◌else◌, ◌&&◌, List, length, ℤ, pos, nat_lt, slice_index_or, unsigned_abs}
 use Rattle.terms.specs.declared.channels.Channel.{Channel}
 use Rattle.terms.specs.declared.channels.Channel.TheVariants.{C, G}
 use Rattle.points.specs.Classes.{is_member}
@@ -14,7 +14,7 @@ use Rattle.losses.specs.declared.networks.Remainder.{Remainder}
 abbrev pub Done : Hour → Channel → ℕ → List ℤ → Type 0
 Done x c n bs =
     (k : ℕ) → k < length x.points
-    → slice_index_or bs k (pos 0) ≡ cond (is_member (class_of x.points (suc k)) && nat_lt (parent_of x.points (suc k)) n) (borne x c (suc k)) (pos 0)
+    → slice_index_or bs k (pos 0) ≡ (if is_member (class_of x.points (suc k)) && nat_lt (parent_of x.points (suc k)) n then borne x c (suc k) else pos 0)
 
 -- the most that a network adds to the sign excess, by what its charges and its loss come to
 abbrev pub excess_most : ℕ

@@ -1,9 +1,8 @@
 // The run of an hour: losses found network by network and divided among the members.
 #![tactic(auto)]
 
-mod blocks;
 mod carry;
-mod groups;
+mod hours;
 mod networks;
 mod rules;
 mod sums;

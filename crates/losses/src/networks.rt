@@ -1,21 +1,14 @@
 // The networks of an hour, one after the other.
-ghost use Rattle.std.specs.Prelude.{◌≡◌, ◌+◌, ◌*◌, ◌≤◌, true, length, ◌+ℤ◌, ◌-ℤ◌, IfOk, unsigned_abs};
+ghost use Rattle.std.specs.Prelude.{◌≡◌, ◌*◌, ◌≤◌, length, pos, ◌+ℤ◌, ◌-ℤ◌, IfOk, unsigned_abs};
 ghost use Rattle.terms.specs.Answers.{answered, passing};
 ghost use Rattle.terms.specs.declared.channels.Channel.TheVariants.{C as OnC, G as OnG};
-ghost use Rattle.points.specs.Points.{is_network};
-ghost use Rattle.points.specs.Rules.{Limited, Placed};
 ghost use Rattle.shares.specs.Rules.{sum_limit};
-ghost use Rattle.shares.specs.Runs.{burden_tests, network_tests};
-ghost use Rattle.losses.specs.Blocks.{hour_in, Hourly};
-ghost use Rattle.losses.specs.Charging.{loss_by};
-ghost use Rattle.losses.specs.Rounds.{AllSettled, Done, excess_most, Settled, Small};
-ghost use Rattle.losses.specs.Sharing.{SumsAt};
+ghost use Rattle.shares.specs.Runs.{network_tests};
+ghost use Rattle.losses.specs.Rounds.{Done, excess_most, Settled};
 
-use crate::carry::settle;
-use crate::groups::{Group, group_sum, monitor_sum};
+use crate::hours::Network;
 use crate::rules::{Charges, LossRule};
 use crate::sums::NetworkSums;
-use points::Point;
 use terms::{Amount, AmountC, AmountG, Refusal};
 
 // What networks leave: what no member bears on each channel, and their sign excess.
@@ -24,22 +17,6 @@ pub(crate) struct Remainder {
     pub(crate) unborne_c: AmountC,
     pub(crate) unborne_g: AmountG,
     pub(crate) excess: i64,
-}
-
-// The four sums of a network.
-fn sums_of(points: &[Point], hours: &[i64], network: usize) -> NetworkSums
-    requires limited { Limited points.now }
-    requires paired { length hours.now ≡ 2 * length points.now }
-    requires hourly { Hourly hours.now }
-    requires within { network ≤ length points.now }
-    ensures { SumsAt points.now hours.now network result }
-{
-    NetworkSums {
-        monitors_c: monitor_sum(points, hours, network),
-        monitors_g: monitor_sum(points, hours, network),
-        members_c: group_sum(points, hours, Group::MembersOf(network)),
-        members_g: group_sum(points, hours, Group::MembersOf(network)),
-    }
 }
 
 // What a network is charged on both channels together, beyond its loss.
@@ -53,36 +30,66 @@ fn excess_of(charges: Charges, loss: i64) -> i64
     charges.c.wh() + charges.g.wh() - loss
 }
 
-// Settles one network: its loss is charged as the rule says, and its burden on each channel is shared, C before G.
-fn settle_network<R: LossRule>(
-    points: &[Point],
-    rule: &R,
-    hours: &[i64],
-    network: usize,
-    borne_c: &mut [i64],
-    borne_g: &mut [i64],
-) -> Result<Remainder, Refusal>
-    requires placed { Placed points.now }
-    requires limited { Limited points.now }
-    requires paired { length hours.now ≡ 2 * length points.now }
-    requires wide_c { length borne_c.old ≡ length points.now }
-    requires wide_g { length borne_g.old ≡ length points.now }
-    requires hourly { Hourly hours.now }
-    requires within { network ≤ length points.now }
-    requires network { is_network points.now network ≡ true }
-    requires done_c { Done (hour_in points.now (R.LossRule.rule rule.now) hours.now) OnC network borne_c.old }
-    requires done_g { Done (hour_in points.now (R.LossRule.rule rule.now) hours.now) OnG network borne_g.old }
-    ensures tests { passing (answered result) ≡ network_tests (hour_in points.now (R.LossRule.rule rule.now) hours.now) network }
-    ensures settled { IfOk result (Settled (hour_in points.now (R.LossRule.rule rule.now) hours.now) network borne_c.new borne_g.new) }
-{
-    let sums = sums_of(points, hours, network);
-    let charges = rule.charges(sums);
-    let unborne_c = settle(points, hours, network, charges.c, sums.members_c, borne_c)?;
-    let unborne_g = settle(points, hours, network, charges.g, sums.members_g, borne_g)?;
-    let excess = excess_of(charges, sums.loss());
-    Ok(Remainder {
-        unborne_c,
-        unborne_g,
-        excess,
-    })
+impl Network<'_> {
+    ghost use Rattle.losses.specs.Metered.{hour_by, members_on, monitors_on, SumsAt};
+
+    // The sum of the monitors: the roots monitor the main network, a monitor its own.
+    fn monitor_sum<A: Amount>(&self) -> A
+        ensures { A.Amount.watt_hours result ≡ pos (monitors_on A.Amount.on self.now) }
+    {
+        if self.number == 0 {
+            self.hour.sum_where(|q| q.class.is_root())
+        } else {
+            self.hour.value_at(self.number - 1)
+        }
+    }
+
+    // The sum of the members.
+    fn member_sum<A: Amount>(&self) -> A
+        ensures { A.Amount.watt_hours result ≡ pos (members_on A.Amount.on self.now) }
+    {
+        let number = self.number;
+        self.hour.sum_where(|q| q.is_member_of(number))
+    }
+
+    // The four sums.
+    fn sums(&self) -> NetworkSums
+        ensures { SumsAt self.now result }
+    {
+        NetworkSums {
+            monitors_c: self.monitor_sum(),
+            monitors_g: self.monitor_sum(),
+            members_c: self.member_sum(),
+            members_g: self.member_sum(),
+        }
+    }
+
+    // Settles the network: its loss is charged as the rule says, and its burden on each channel is shared, C before G.
+    // The blocks are the caller's memory, one number for each point.
+    pub(crate) fn settle<R: LossRule>(
+        &self,
+        rule: &R,
+        borne_c: &mut [i64],
+        borne_g: &mut [i64],
+    ) -> Result<Remainder, Refusal>
+        requires wide_c { length borne_c.old ≡ length self.now.hour.points.now }
+        requires wide_g { length borne_g.old ≡ length self.now.hour.points.now }
+        requires done_c { Done (hour_by (R.LossRule.rule rule.now) self.now.hour) OnC self.now.number borne_c.old }
+        requires done_g { Done (hour_by (R.LossRule.rule rule.now) self.now.hour) OnG self.now.number borne_g.old }
+        ensures tests { passing (answered result)
+            ≡ network_tests (hour_by (R.LossRule.rule rule.now) self.now.hour) self.now.number }
+        ensures settled { IfOk result
+            (Settled (hour_by (R.LossRule.rule rule.now) self.now.hour) self.now.number borne_c.new borne_g.new) }
+    {
+        let sums = self.sums();
+        let charges = rule.charges(sums);
+        let unborne_c = self.settle_on(charges.c, sums.members_c, borne_c)?;
+        let unborne_g = self.settle_on(charges.g, sums.members_g, borne_g)?;
+        let excess = excess_of(charges, sums.loss());
+        Ok(Remainder {
+            unborne_c,
+            unborne_g,
+            excess,
+        })
+    }
 }

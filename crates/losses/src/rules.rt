@@ -1,11 +1,11 @@
 // Loss rules: on which channel the loss of a network is charged.
 ghost use Rattle.std.specs.Prelude.{◌≡◌, pos};
 ghost use Rattle.shares.specs.Rules.{flow_reading, Meaning, Rule, sign_reading};
-ghost use Rattle.losses.specs.Charging.{Charged};
+ghost use Rattle.losses.specs.Charging.{all_on, Charged};
 ghost use Rattle.shares.proofs.Rules.{flow, sign};
 
 use crate::sums::NetworkSums;
-use terms::{Amount, AmountC, AmountG};
+use terms::{Amount, AmountC, AmountG, Channel};
 
 // What a network is charged on each channel.
 #[derive(Clone, Copy)]
@@ -25,23 +25,22 @@ pub trait LossRule {
     ghost meaning: { (s : Self) → Meaning (rule s) };
 }
 
-// All of a charge on C.
-fn on_c(wh: i64) -> Charges
-    ensures { (result.c.0 ≡ wh) × (result.g.0 ≡ pos 0) }
-{
-    Charges {
-        c: AmountC::from_wh(wh),
-        g: AmountG::from_wh(0),
-    }
-}
-
-// All of a charge on G.
-fn on_g(wh: i64) -> Charges
-    ensures { (result.c.0 ≡ pos 0) × (result.g.0 ≡ wh) }
-{
-    Charges {
-        c: AmountC::from_wh(0),
-        g: AmountG::from_wh(wh),
+impl Charges {
+    // All of a charge on one channel.
+    fn on(channel: Channel, wh: i64) -> Charges
+        ensures c { result.c.0 ≡ (all_on channel wh).0 }
+        ensures g { result.g.0 ≡ (all_on channel wh).1 }
+    {
+        match channel {
+            Channel::C => Charges {
+                c: AmountC::from_wh(wh),
+                g: AmountG::from_wh(0),
+            },
+            Channel::G => Charges {
+                c: AmountC::from_wh(0),
+                g: AmountG::from_wh(wh),
+            },
+        }
     }
 }
 
@@ -57,9 +56,9 @@ impl LossRule for FlowReading {
     fn charges(&self, sums: NetworkSums) -> Charges {
         let loss = sums.loss();
         if sums.monitors_c - sums.monitors_g >= 0 {
-            on_c(loss)
+            Charges::on(Channel::C, loss)
         } else {
-            on_g(loss)
+            Charges::on(Channel::G, loss)
         }
     }
 }
@@ -75,6 +74,10 @@ impl LossRule for SignReading {
 
     fn charges(&self, sums: NetworkSums) -> Charges {
         let loss = sums.loss();
-        if loss >= 0 { on_c(loss) } else { on_g(-loss) }
+        if loss >= 0 {
+            Charges::on(Channel::C, loss)
+        } else {
+            Charges::on(Channel::G, -loss)
+        }
     }
 }

@@ -1,13 +1,15 @@
 -- The four classes of a point, and the letters that stand for them.
-use Rattle.std.specs.Prelude.{ℕ, Bool, true, false, cond, List, ◌∷◌, Some, None, decimal, Option, ◌==◌}
+use Rattle.std.specs.Prelude.{ℕ, Bool, true, false, if◌then◌else◌, List, ◌∷◌, Some, None, decimal, Option, ◌==◌}
 use Rattle.points.specs.declared.classes.Class.{Class}
 use Rattle.points.specs.declared.classes.Class.TheVariants.{Root, Member, Monitor, Embedded}
 
 -- R, P, M and E, by their codes
 abbrev pub class_by : ℕ → Option Class
 class_by c =
-    cond (c == 82) (Some Root)
-    (cond (c == 80) (Some Member) (cond (c == 77) (Some Monitor) (cond (c == 69) (Some Embedded) None)))
+    if c == 82 then Some Root
+    else (if c == 80 then Some Member
+    else (if c == 77 then Some Monitor
+    else (if c == 69 then Some Embedded else None)))
 
 abbrev pub letter_of : Class → ℕ
 letter_of Root = 82

@@ -1,6 +1,6 @@
 -- A tree as the list of its points. Points are numbered from 1 in the order of the list. Networks
 -- have numbers too: 0 is the main network, any other has the number of its monitor.
-use Rattle.std.specs.Prelude.{◌≡◌, ℕ, zero, suc, ◌+◌, ◌<◌, ◌≤◌, Bool, cond, ◌&&◌, ◌||◌, List, length, Some, None, count_by, Option, ◌==◌, nat_le, nat_lt, slice_index_or}
+use Rattle.std.specs.Prelude.{◌≡◌, ℕ, zero, suc, ◌+◌, ◌<◌, ◌≤◌, Bool, if◌then◌else◌, ◌&&◌, ◌||◌, List, length, Some, None, count_by, Option, ◌==◌, nat_le, nat_lt, slice_index_or}
 use Rattle.points.specs.Classes.{is_root, is_member, is_monitor, is_embedded}
 use Rattle.points.specs.declared.classes.Class.{Class}
 use Rattle.points.specs.declared.classes.Class.TheVariants.{Root}
@@ -23,7 +23,7 @@ parent_of ps p = (point ps p).parent
 
 -- point p, if there is one
 abbrev pub point_at : List Point → ℕ → Option Point
-point_at ps p = cond (nat_lt 0 p && nat_le p (length ps)) (Some (point ps p)) None
+point_at ps p = if nat_lt 0 p && nat_le p (length ps) then Some (point ps p) else None
 
 -- p is the number of a point
 abbrev pub IsPoint : List Point → ℕ → Type 0
@@ -61,7 +61,7 @@ networks ps = 1 + count_by (λ q. is_monitor q.class) ps
 -- monitor joins. A parent is an earlier point, so that m steps up reach the main network.
 abbrev pub depth_in : List Point → ℕ → ℕ → ℕ
 depth_in ps zero m = 1
-depth_in ps (suc k) m = cond (m == 0) 1 (1 + depth_in ps k (parent_of ps m))
+depth_in ps (suc k) m = if m == 0 then 1 else 1 + depth_in ps k (parent_of ps m)
 
 abbrev pub depth : List Point → ℕ → ℕ
 depth ps m = depth_in ps m m

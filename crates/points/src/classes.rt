@@ -1,5 +1,6 @@
 // What a point is: its class and the number of its parent.
 ghost use Rattle.std.specs.Prelude.{◌≡◌, [], ◌∷◌, Some};
+ghost use Rattle.std.specs.Result.{result_ok};
 ghost use Rattle.points.specs.Classes.{class_by, hosts, is_billing, is_embedded, is_member, is_monitor, is_root, letter_of};
 ghost use Rattle.points.specs.Points.{member_of};
 
@@ -8,7 +9,7 @@ use std::fmt;
 // The class of a point. A root is where the connection is metered; the roots monitor the main
 // network. A member takes part in a network, and a monitor is a member that monitors a network of
 // its own. An embedded point is metered within a member or within another embedded point.
-#[derive(Clone, Copy, PartialEq, Eq)]
+#[derive(Clone, Copy, Debug, PartialEq, Eq)]
 pub enum Class {
     Root,
     Member,
@@ -19,26 +20,34 @@ pub enum Class {
 // One point of a tree. Its parent is the number of an earlier point, or 0. A root names 0, a member
 // or a monitor names the monitor of the network that it joins, 0 for the main network, and an
 // embedded point names the point that it is embedded in.
-#[derive(Clone, Copy, PartialEq, Eq)]
+#[derive(Clone, Copy, Debug, PartialEq, Eq)]
 pub struct Point {
     pub class: Class,
     pub parent: usize,
 }
 
-impl Class {
-    // The class that a letter stands for.
-    pub fn of_letter(letter: char) -> Option<Class>
-        ensures { result ≡ class_by letter }
-    {
+// No class has this letter.
+#[derive(Clone, Copy, Debug, PartialEq, Eq)]
+pub struct NoClass;
+
+// The class that a letter stands for.
+impl TryFrom<char> for Class {
+    type Error = NoClass;
+
+    ghost try_from_gives = { λ letter r. result_ok r ≡ class_by letter };
+
+    fn try_from(letter: char) -> Result<Class, NoClass> {
         match letter {
-            'R' => Some(Class::Root),
-            'P' => Some(Class::Member),
-            'M' => Some(Class::Monitor),
-            'E' => Some(Class::Embedded),
-            _ => None,
+            'R' => Ok(Class::Root),
+            'P' => Ok(Class::Member),
+            'M' => Ok(Class::Monitor),
+            'E' => Ok(Class::Embedded),
+            _ => Err(NoClass),
         }
     }
+}
 
+impl Class {
     pub fn is_root(self) -> bool
         ensures { result ≡ is_root self }
     {
@@ -94,11 +103,11 @@ impl fmt::Display for Class {
     ghost output = { λ c. Some (letter_of c ∷ []) };
 
     fn fmt<W: fmt::Write>(&self, f: &mut fmt::Formatter<W>) -> fmt::Result {
-        match self {
-            Class::Root => write!(f, "R"),
-            Class::Member => write!(f, "P"),
-            Class::Monitor => write!(f, "M"),
-            Class::Embedded => write!(f, "E"),
-        }
+        f.write_str(match self {
+            Class::Root => "R",
+            Class::Member => "P",
+            Class::Monitor => "M",
+            Class::Embedded => "E",
+        })
     }
 }

@@ -4,4 +4,4 @@
 
 mod classes;
 
-pub use classes::{Class, Point};
+pub use classes::{Class, NoClass, Point};

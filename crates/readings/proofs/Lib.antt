@@ -1,4 +1,3 @@
 pub mod Judging
-pub mod Needing
 pub mod Progress
 pub mod Spreading

@@ -35,11 +35,6 @@ usable_amount None u = absurd u
 usable_amount (Some a) u = u
 
 module _ (at : Readings) (h : ℕ) where
-  pub passed_none : Passed at h 1 0 0
-  passed_none q a b e (inl lt) = absurd (omega arith)
-  passed_none q a b e (inr (same, inl lt)) = absurd (omega arith)
-  passed_none q a b e (inr (same, inr (like, lt))) = absurd (omega arith)
-
   pub passed_start : (p m i : ℕ) → i ≤ 12 * h → Passed at h p m 0 → Passed at h p m i
   passed_start p m i low old q a b e (inl lt) = old q a b e (inl lt)
   passed_start p m i low old q a b e (inr (same, inl lt)) = old q a b e (inr (same, inl lt))
@@ -75,17 +70,6 @@ module _ (at : Readings) (h : ℕ) where
       go (inr more) = old q a b e (inr (omega arith, inl (ordinal_below q.channel)))
   passed_point p old q a b e (inr (same, inl lt)) = absurd (omega arith)
   passed_point p old q a b e (inr (same, inr (like, lt))) = absurd (omega arith)
-
-  pub written_none : (hours : List ℤ) → Written at h hours hours 1 0
-  written_none hours = record { sums = none; rest = λ k _. refl }
-    where
-      none : (q : ℕ) (d : Channel) → 1 ≤ q → (q < 1) ⊎ ((q ≡ 1) × (ordinal d < 0)) → get_or hours (slot q (ordinal d)) (pos 0) ≡ pos (hour_sum at q d h)
-      none q d a (inl lt) = absurd (omega arith)
-      none q d a (inr (same, lt)) = absurd (omega arith)
-
-  -- from what stands now on
-  pub written_again : (p m : ℕ) (old hours : List ℤ) → Written at h old hours p m → Written at h hours hours p m
-  written_again p m old hours w = record { sums = w.sums; rest = λ k _. refl }
 
   pub written_on : (p m : ℕ) (old mid hours : List ℤ) → Written at h old mid p 0 → Written at h mid hours p m → Written at h old hours p m
   written_on p m old mid hours v w = record { sums = w.sums; rest = λ k le. w.rest k le ∙ v.rest k (omega arith) }
@@ -135,11 +119,11 @@ module _ (at : Readings) (h : ℕ) where
   }
 
   pub first_fault : (n p : ℕ) (c : Channel) (m i number : ℕ) (place : List ℕ) (old hours : List ℤ) → ordinal c ≡ m → InHour n h (place_at p c i)
-      → needed (at (place_at p c i)) (place_at p c i) ≡ refuses number place → Passed at h p m i → Written at h old hours p m → FirstFault at n h old hours number place
+      → refuses number place ≡ needed (at (place_at p c i)) (place_at p c i) → Passed at h p m i → Written at h old hours p m → FirstFault at n h old hours number place
   first_fault n p c m i number place old hours o within faulty past w = record {
     fault = place_at p c i;
     within = within;
-    faulty = faulty;
+    faulty = sym faulty;
     first = λ q r before. past q r.0 r.2 r.3 (subst (λ x. Before q p x i) o before);
     written = subst (λ x. Written at h old hours p x) (sym o) w;
   }
@@ -149,11 +133,11 @@ module _ (at : Readings) (h : ℕ) where
   unfolding sum_from
   sum_none p c i e = let none : i - 12 * h ≡ 0 = omega arith in rw none refl
 
-  pub sum_more : (p : ℕ) (c : Channel) (i a s : ℕ) → 12 * h ≤ i → at (place_at p c i) ≡ Some a → s ≡ sum_from at p c (12 * h) (i - 12 * h)
-      → s + a ≡ sum_from at p c (12 * h) (i + 1 - 12 * h)
+  pub sum_more : (p : ℕ) (c : Channel) (i n a s : ℕ) → n ≡ i + 1 → 12 * h ≤ i → at (place_at p c i) ≡ Some a → s ≡ sum_from at p c (12 * h) (i - 12 * h)
+      → s + a ≡ sum_from at p c (12 * h) (n - 12 * h)
   unfolding sum_from
-  sum_more p c i a s low is before =
-      let next : i + 1 - 12 * h ≡ suc (i - 12 * h) = omega arith in
+  sum_more p c i n a s more low is before =
+      let next : n - 12 * h ≡ suc (i - 12 * h) = omega arith in
       let here : 12 * h + (i - 12 * h) ≡ i = omega arith in
       let new : amount_of (at (place_at p c (12 * h + (i - 12 * h)))) ≡ a = ap (λ j. amount_of (at (place_at p c j))) here ∙ ap amount_of is in
       rw next (omega arith)

@@ -1,6 +1,6 @@
 -- The integration of an hour (command 3). Hour h consists of the intervals 12 h to 12 h + 11, and a
 -- point's hour values, its hour C and its hour G, sum its amounts there.
-use Rattle.std.specs.Prelude.{◌≡◌, ℕ, zero, suc, ◌+◌, ◌-◌, ◌*◌, ◌<◌, ◌≤◌, cond, ◌&&◌, ◌⊎◌, List, length, ℤ, pos, Some, None, Option, nat_le, slice_index_or}
+use Rattle.std.specs.Prelude.{◌≡◌, ℕ, zero, suc, ◌+◌, ◌-◌, ◌*◌, ◌<◌, ◌≤◌, if◌then◌else◌, ◌&&◌, ◌⊎◌, List, length, ℤ, pos, Some, None, Option, nat_le, slice_index_or}
 use Rattle.terms.specs.Answers.{Answer, gives, refuses, ◌thereafter◌, in_order}
 use Rattle.terms.specs.Channels.{ordinal, place_at}
 use Rattle.terms.specs.declared.channels.Channel.{Channel}
@@ -50,7 +50,7 @@ slot p c = 2 * (p - 1) + c
 
 -- the hour value that stands there, if there is room for the point
 abbrev pub hour_value : List ℤ → ℕ → Channel → Option ℤ
-hour_value hours p c = cond (nat_le 1 p && nat_le (2 * p) (length hours)) (Some (slice_index_or hours (slot p (ordinal c)) (pos 0))) None
+hour_value hours p c = if nat_le 1 p && nat_le (2 * p) (length hours) then Some (slice_index_or hours (slot p (ordinal c)) (pos 0)) else None
 
 -- the hour values that stand before a place are the sums, and from there on the memory is as it was
 pub record Written (at : Readings) (h : ℕ) (old hours : List ℤ) (p c : ℕ) : Type 0 where

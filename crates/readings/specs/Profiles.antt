@@ -1,5 +1,5 @@
 -- A profile: one point, with an amount for each hour of the day, spread over the hour's intervals.
-use Rattle.std.specs.Prelude.{◌≡◌, ℕ, ◌+◌, ◌-◌, ◌*◌, ◌/◌, ◌%◌, ◌<◌, ◌≤◌, cond, List, Some, None, ◌==◌, slice_index}
+use Rattle.std.specs.Prelude.{◌≡◌, ℕ, ◌+◌, ◌-◌, ◌*◌, ◌/◌, ◌%◌, ◌<◌, ◌≤◌, if◌then◌else◌, List, Some, None, ◌==◌, slice_index}
 use Rattle.terms.specs.Channels.{place_at}
 use Rattle.terms.specs.declared.channels.Channel.{Channel}
 use Rattle.terms.specs.declared.channels.Channel.TheVariants.{C, G}
@@ -22,7 +22,7 @@ on_channel G x = 0
 -- what a profile has at a place
 abbrev pub profile_at : ℕ → List ℕ → Readings
 profile_at point amounts p =
-    cond (p.point == point) (Some (on_channel p.channel (part (slice_index amounts (p.interval / 12 % 24)) (p.interval % 12)))) None
+    if p.point == point then Some (on_channel p.channel (part (slice_index amounts (p.interval / 12 % 24)) (p.interval % 12))) else None
 
 abbrev pub Within : List ℕ → Type 0
 Within amounts = (h : ℕ) → h < 24 → slice_index amounts h ≤ hour_limit

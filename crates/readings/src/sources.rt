@@ -1,5 +1,5 @@
 // What a source of readings is, and one that takes corrections.
-ghost use Rattle.std.specs.Prelude.{◌≡◌, ℕ, Bool, true, is_ok, is_err, Option};
+ghost use Rattle.std.specs.Prelude.{◌≡◌, ℕ, Bool, OnOk, OnErr, Option};
 ghost use Rattle.terms.specs.Answers.{answered};
 ghost use Rattle.terms.specs.declared.channels.Place.{Place};
 ghost use Rattle.readings.specs.Places.{correction_tests, Corrected};
@@ -30,8 +30,8 @@ pub trait Correctable: Source {
     // Puts an amount at a place of the extent.
     fn correct(&mut self, place: Place, amount: u32) -> Result<(), Refusal>
         ensures answer { answered result ≡ correction_tests (extent self.old place) place amount }
-        ensures places { is_ok result ≡ true → Corrected (Self.Source.at self.old) (Self.Source.at self.new) place amount }
-        ensures refused { is_err result ≡ true → self.new ≡ self.old }
+        ensures places { OnOk result (Corrected (Self.Source.at self.old) (Self.Source.at self.new) place amount) }
+        ensures refused { OnErr result (self.new ≡ self.old) }
         ensures stays { (q : Place) → extent self.new q ≡ extent self.old q }
         ensures lender { tied self.old place self.new };
 }

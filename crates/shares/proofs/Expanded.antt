@@ -109,7 +109,7 @@ module _ (ps : List Point) (placed : Placed ps) (h : ℕ → ℕ) (chg : ℕ →
       (by_class p (is_member (class_of ps p)) (λ some. above (some, omega arith)) product))
 
 -- a network other than the main one has a member for its monitor
-monitor_member : (c : Class) → is_monitor c ≡ true → is_member c ≡ true
+pub monitor_member : (c : Class) → is_monitor c ≡ true → is_member c ≡ true
 monitor_member Root e = e
 monitor_member Member e = refl
 monitor_member Monitor e = refl

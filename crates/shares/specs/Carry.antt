@@ -1,6 +1,6 @@
 -- The carry rule: how the burden of a network is shared among its members. It goes by one channel, on which h has
 -- the hour values of the points and chg the charges of the networks.
-use Rattle.std.specs.Prelude.{◌≡◌, ℕ, zero, suc, pred, ◌+◌, ◌*◌, ◌/◌, ◌%◌, cond, List, ℤ, pos, negsuc, ◌+ℤ◌, neg_ℤ, unsigned_abs}
+use Rattle.std.specs.Prelude.{◌≡◌, ℕ, zero, suc, pred, ◌+◌, ◌*◌, ◌/◌, ◌%◌, if◌then◌else◌, List, ℤ, pos, negsuc, ◌+ℤ◌, neg_ℤ, unsigned_abs}
 use Rattle.points.specs.Classes.{is_member}
 use Rattle.points.specs.Points.{class_of, parent_of, joins, IsPoint}
 use Rattle.points.specs.declared.classes.Point.{Point}
@@ -25,7 +25,7 @@ left_over (suc s) z = pos 0
 unfoldable pub carry : List Point → (ℕ → ℕ) → ℕ → ℕ → ℕ → ℕ
 carry ps h m b zero = 0
 carry ps h m b (suc k) =
-    cond (joins ps m (suc k)) ((b * h (suc k) + carry ps h m b k) % member_sum ps h m) (carry ps h m b k)
+    if joins ps m (suc k) then (b * h (suc k) + carry ps h m b k) % member_sum ps h m else carry ps h m b k
 
 -- what member p of network m bears of the burden z
 unfoldable pub share : List Point → (ℕ → ℕ) → ℕ → ℤ → ℕ → ℤ
@@ -41,14 +41,14 @@ burden_by chg bears (suc m) = chg (suc m) +ℤ bears (suc m)
 abbrev pub ByCarryRule : List Point → (ℕ → ℕ) → (ℕ → ℤ) → (ℕ → ℤ) → Type 0
 ByCarryRule ps h chg bears =
     (p : ℕ) → IsPoint ps p
-    → bears p ≡ cond (is_member (class_of ps p)) (share ps h (parent_of ps p) (burden_by chg bears (parent_of ps p)) p) (pos 0)
+    → bears p ≡ (if is_member (class_of ps p) then share ps h (parent_of ps p) (burden_by chg bears (parent_of ps p)) p else pos 0)
 
 -- The losses that obey it, found from the main network down. The first number is the steps up that are left; a
 -- parent comes earlier, so that p steps suffice for point p.
 unfoldable pub borne_in : List Point → (ℕ → ℕ) → (ℕ → ℤ) → ℕ → ℕ → ℤ
 borne_in ps h chg zero p = pos 0
 borne_in ps h chg (suc k) p =
-    cond (is_member (class_of ps p)) (share ps h (parent_of ps p) (burden_by chg (borne_in ps h chg k) (parent_of ps p)) p) (pos 0)
+    if is_member (class_of ps p) then share ps h (parent_of ps p) (burden_by chg (borne_in ps h chg k) (parent_of ps p)) p else pos 0
 
 abbrev pub borne_on : List Point → (ℕ → ℕ) → (ℕ → ℤ) → ℕ → ℤ
 borne_on ps h chg p = borne_in ps h chg p p

@@ -1,5 +1,5 @@
 -- The exact loss: the same sharing without rounding.
-use Rattle.std.specs.Prelude.{◌≡◌, ℕ, zero, suc, ◌*◌, ◌<◌, cond, List, [], ◌∷◌, ℤ, pos, ◌+ℤ◌, ◌-ℤ◌, ◌*ℤ◌, unsigned_abs}
+use Rattle.std.specs.Prelude.{◌≡◌, ℕ, zero, suc, ◌*◌, ◌<◌, if◌then◌else◌, List, [], ◌∷◌, ℤ, pos, ◌+ℤ◌, ◌-ℤ◌, ◌*ℤ◌, unsigned_abs}
 use Rattle.terms.specs.declared.channels.Channel.{Channel}
 use Rattle.points.specs.Classes.{is_member}
 use Rattle.points.specs.Points.{class_of, parent_of, IsPoint}
@@ -57,13 +57,13 @@ exact_burden_by chg losses (suc m) = plus (chg (suc m)) (losses (suc m))
 abbrev pub ByExactRule : List Point → (ℕ → ℕ) → (ℕ → ℤ) → (ℕ → Fraction) → Type 0
 ByExactRule ps h chg losses =
     (p : ℕ) → IsPoint ps p
-    → losses p ≡ cond (is_member (class_of ps p)) (times (exact_burden_by chg losses (parent_of ps p)) (participation ps h p)) (whole (pos 0))
+    → losses p ≡ (if is_member (class_of ps p) then times (exact_burden_by chg losses (parent_of ps p)) (participation ps h p) else whole (pos 0))
 
 -- the losses that obey it, with as many steps up as the first number says
 unfoldable pub exact_in : List Point → (ℕ → ℕ) → (ℕ → ℤ) → ℕ → ℕ → Fraction
 exact_in ps h chg zero p = whole (pos 0)
 exact_in ps h chg (suc k) p =
-    cond (is_member (class_of ps p)) (times (exact_burden_by chg (exact_in ps h chg k) (parent_of ps p)) (participation ps h p)) (whole (pos 0))
+    if is_member (class_of ps p) then times (exact_burden_by chg (exact_in ps h chg k) (parent_of ps p)) (participation ps h p) else whole (pos 0)
 
 abbrev pub exact_on : List Point → (ℕ → ℕ) → (ℕ → ℤ) → ℕ → Fraction
 exact_on ps h chg p = exact_in ps h chg p p
@@ -73,7 +73,7 @@ exact_on ps h chg p = exact_in ps h chg p p
 -- the members from p up to the main network: p, then the monitor of the network that it joins, and so on
 unfoldable pub way_in : List Point → ℕ → ℕ → List ℕ
 way_in ps zero p = []
-way_in ps (suc k) p = cond (is_member (class_of ps p)) (p ∷ way_in ps k (parent_of ps p)) []
+way_in ps (suc k) p = if is_member (class_of ps p) then p ∷ way_in ps k (parent_of ps p) else []
 
 abbrev pub way_up : List Point → ℕ → List ℕ
 way_up ps p = way_in ps p p

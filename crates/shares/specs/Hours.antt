@@ -1,5 +1,5 @@
 -- The figures of one hour, by the tree's points, the loss rule, and the hour values of the points.
-use Rattle.std.specs.Prelude.{ℕ, zero, suc, ◌≤◌, cond, List, [], ◌∷◌, ◌++◌, length, ℤ, pos, ◌+ℤ◌, ◌-ℤ◌, nat_lt}
+use Rattle.std.specs.Prelude.{ℕ, zero, suc, ◌≤◌, if◌then◌else◌, List, [], ◌∷◌, ◌++◌, length, ℤ, pos, ◌+ℤ◌, ◌-ℤ◌, nat_lt}
 use Rattle.terms.specs.declared.channels.Channel.{Channel}
 use Rattle.terms.specs.declared.channels.Channel.TheVariants.{C, G}
 use Rattle.points.specs.Classes.{is_root, is_billing}
@@ -19,7 +19,7 @@ pub record Hour : Type 0 where
 -- the hour values of the points 1 to n in hour h; a number that no point has has 0
 abbrev pub values_of : Readings → ℕ → ℕ → Channel → ℕ → ℕ
 values_of at n h c zero = 0
-values_of at n h c (suc k) = cond (nat_lt k n) (hour_sum at (suc k) c h) 0
+values_of at n h c (suc k) = if nat_lt k n then hour_sum at (suc k) c h else 0
 
 abbrev pub hour_of : List Point → Rule → Readings → ℕ → Hour
 hour_of ps rule at h = record { points = ps; rule = rule; values = values_of at (length ps) h }

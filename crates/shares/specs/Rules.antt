@@ -1,5 +1,5 @@
 -- Loss rules: on which channel the loss of a network is charged (commands 11 to 13).
-use Rattle.std.specs.Prelude.{◌≡◌, ℕ, ◌≤◌, cond, ◌⊎◌, ℤ, pos, ◌-ℤ◌, nat_le, unsigned_abs}
+use Rattle.std.specs.Prelude.{◌≡◌, ℕ, ◌≤◌, if◌then◌else◌, ◌⊎◌, ℤ, pos, ◌-ℤ◌, nat_le, unsigned_abs}
 use Rattle.std.specs.Int.Signed.{non_neg}
 
 -- From four sums of a network, the monitors' C and G and the members' C and G, a rule gives a charge on C and a
@@ -29,9 +29,9 @@ Meaning rule =
 
 -- The flow reading (command 12): the loss, with its sign, on C if the monitors' C is at least their G, else on G.
 unfoldable pub flow_reading : Rule
-flow_reading mc mg sc sg = cond (nat_le mg mc) (loss_of mc mg sc sg, pos 0) (pos 0, loss_of mc mg sc sg)
+flow_reading mc mg sc sg = if nat_le mg mc then (loss_of mc mg sc sg, pos 0) else (pos 0, loss_of mc mg sc sg)
 
 -- The sign reading (command 13): the loss on C if it is at least 0, else its absolute value on G.
 unfoldable pub sign_reading : Rule
 sign_reading mc mg sc sg =
-    cond (non_neg (loss_of mc mg sc sg)) (loss_of mc mg sc sg, pos 0) (pos 0, pos (unsigned_abs (loss_of mc mg sc sg)))
+    if non_neg (loss_of mc mg sc sg) then (loss_of mc mg sc sg, pos 0) else (pos 0, pos (unsigned_abs (loss_of mc mg sc sg)))

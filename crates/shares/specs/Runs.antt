@@ -1,5 +1,5 @@
 -- The run of an hour: what it tests, in order, and what it writes.
-use Rattle.std.specs.Prelude.{ℕ, ◌+◌, ◌*◌, cond, ◌&&◌, List, [], ◌∷◌, ◌++◌, length, drop, ℤ, nat_le, unsigned_abs}
+use Rattle.std.specs.Prelude.{ℕ, ◌+◌, ◌*◌, if◌then◌else◌, ◌&&◌, List, [], ◌∷◌, ◌++◌, length, drop, ℤ, nat_le, unsigned_abs}
 use Rattle.terms.specs.Answers.{Answer, gives, refuses, tested, ◌thereafter◌, in_order}
 use Rattle.terms.specs.Channels.{ordinal}
 use Rattle.terms.specs.declared.channels.Channel.{Channel}
@@ -34,7 +34,7 @@ abbrev pub burden_test : Hour → ℕ → Channel → Answer (Unit {0})
 burden_test x m c = limit_test (burden x c m) m c
 
 abbrev pub network_tests : Hour → ℕ → Answer (Unit {0})
-network_tests x m = cond (is_network x.points m) (burden_test x m C thereafter burden_test x m G) (gives tt)
+network_tests x m = if is_network x.points m then burden_test x m C thereafter burden_test x m G else gives tt
 
 -- the networks in order, the main one first, C before G
 unfoldable pub burden_tests : Hour → Answer (Unit {0})

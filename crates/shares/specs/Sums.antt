@@ -1,5 +1,5 @@
 -- Sums over the numbers from 1 to n.
-use Rattle.std.specs.Prelude.{ℕ, zero, suc, ◌+◌, Bool, cond, ℤ, pos, ◌+ℤ◌}
+use Rattle.std.specs.Prelude.{ℕ, zero, suc, ◌+◌, Bool, if◌then◌else◌, ℤ, pos, ◌+ℤ◌}
 
 -- f 1 + … + f n, of natural numbers
 unfoldable pub total : ℕ → (ℕ → ℕ) → ℕ
@@ -13,7 +13,7 @@ sum_to (suc n) f = sum_to n f +ℤ f (suc n)
 
 -- the same, of the terms alone whose numbers a test picks
 unfoldable pub total_where : ℕ → (ℕ → Bool) → (ℕ → ℕ) → ℕ
-total_where n picks f = total n (λ j. cond (picks j) (f j) 0)
+total_where n picks f = total n (λ j. if picks j then f j else 0)
 
 unfoldable pub sum_where : ℕ → (ℕ → Bool) → (ℕ → ℤ) → ℤ
-sum_where n picks f = sum_to n (λ j. cond (picks j) (f j) (pos 0))
+sum_where n picks f = sum_to n (λ j. if picks j then f j else pos 0)

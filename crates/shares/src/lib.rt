@@ -8,22 +8,16 @@ ghost use Rattle.shares.specs.Worked.{TableHolds};
 // network shares and unborne add up to the burden; the nets balance, without sign excess unless a loss is negative;
 // each borne loss is near to the exact one, which is command 15; and what happens beneath a dependent monitor
 // changes nothing elsewhere.
-pub fn laws_hold() -> u8
+pub fn laws_hold()
     ensures { LawsHold }
-{
-    0
-}
+{}
 
 // The flow reading and the sign reading are loss rules.
-pub fn readings_are_rules() -> u8
+pub fn readings_are_rules()
     ensures { ReadingsAreRules }
-{
-    0
-}
+{}
 
 // The worked figures are those of the definitions.
-pub fn table_holds() -> u8
+pub fn table_holds()
     ensures { TableHolds }
-{
-    0
-}
+{}

@@ -1,8 +1,9 @@
 -- What a call answers: a value, or a refusal by its number and its place.
-use Rattle.std.specs.Prelude.{ℕ, zero, suc, Bool, cond, List, Ok, Err, Result}
+use Rattle.std.specs.Prelude.{ℕ, zero, suc, Bool, if◌then◌else◌, List, Ok, Err, Result}
 use Rattle.terms.specs.Refusals.{number_of, place_of}
 use Rattle.terms.specs.declared.refusals.Refusal.{Refusal}
 
+-- It is no Result over the cases of a refusal: what is promised is the number and the place, which two cases may share.
 pub data Answer (T : Type 0) : Type 0 where
   gives : T → Answer T
   refuses : ℕ → List ℕ → Answer T
@@ -13,7 +14,7 @@ answered (Err e) = refuses (number_of e) (place_of e)
 
 -- One test in a row of them: where it passes, what follows decides, else it is refusal n at this place.
 abbrev pub tested : {T : Type 0} → Bool → ℕ → List ℕ → Answer T → Answer T
-tested passes n place next = cond passes next (refuses n place)
+tested passes n place next = if passes then next else refuses n place
 
 infixr 20 ◌thereafter◌
 -- Tests after other tests: the first refusal decides.

@@ -8,5 +8,10 @@ abbrev pub ordinal : Channel → ℕ
 ordinal C = 0
 ordinal G = 1
 
+-- the letter of a channel, by its code
+abbrev pub letter_of : Channel → ℕ
+letter_of C = 67
+letter_of G = 71
+
 abbrev pub place_at : ℕ → Channel → ℕ → Place
 place_at p c i = record { point = p; channel = c; interval = i }

@@ -1,34 +1,83 @@
 // The two channels of a meter, and amounts of energy on each.
-ghost use Rattle.std.specs.Prelude.{◌≡◌, ℤ, ◌-ℤ◌, FitsSigned};
+ghost use Rattle.std.specs.Prelude.{◌≡◌, ◌∷◌, [], ℤ, ◌-ℤ◌, FitsSigned, Some};
 ghost use Rattle.std.specs.Int.{w64};
+ghost use Rattle.terms.specs.Channels.{letter_of};
 ghost use Rattle.terms.specs.declared.channels.Channel.{Channel};
 ghost use Rattle.terms.specs.declared.channels.Channel.TheVariants.{C as OnC, G as OnG};
 
+use std::fmt;
+use std::marker::PhantomData;
 use std::ops::Sub;
 
 // C meters consumption, G generation.
-#[derive(Clone, Copy, PartialEq, Eq)]
+#[derive(Clone, Copy, Debug, PartialEq, Eq)]
 pub enum Channel {
     C,
     G,
 }
 
+// The letter of a channel.
+impl fmt::Display for Channel {
+    ghost output = { λ c. Some (letter_of c ∷ []) };
+
+    fn fmt<W: fmt::Write>(&self, f: &mut fmt::Formatter<W>) -> fmt::Result {
+        f.write_str(match self {
+            Self::C => "C",
+            Self::G => "G",
+        })
+    }
+}
+
 // Where a reading stands: a point, numbered from 1, a channel, and an interval of five minutes, numbered
 // from 0.
-#[derive(Clone, Copy, PartialEq, Eq)]
+#[derive(Clone, Copy, Debug, PartialEq, Eq)]
 pub struct Place {
     pub point: usize,
     pub channel: Channel,
     pub interval: u32,
 }
 
-// An amount on channel C, in whole watt-hours.
-#[derive(Clone, Copy, PartialEq, Eq)]
-pub struct AmountC(i64);
+// A channel as a type, so that amounts on different channels have different types.
+pub trait OneChannel: Copy {
+    ghost it: { Channel };
 
-// An amount on channel G, in whole watt-hours.
-#[derive(Clone, Copy, PartialEq, Eq)]
-pub struct AmountG(i64);
+    fn it() -> Channel
+        ensures { result ≡ it };
+}
+
+// Channel C as a type.
+#[derive(Clone, Copy, Debug, PartialEq, Eq)]
+pub struct Consumption;
+
+// Channel G as a type.
+#[derive(Clone, Copy, Debug, PartialEq, Eq)]
+pub struct Generation;
+
+impl OneChannel for Consumption {
+    ghost it = { OnC };
+
+    fn it() -> Channel {
+        Channel::C
+    }
+}
+
+impl OneChannel for Generation {
+    ghost it = { OnG };
+
+    fn it() -> Channel {
+        Channel::G
+    }
+}
+
+// An amount on one channel, in whole watt-hours.
+#[derive(Clone, Copy, Debug, PartialEq, Eq)]
+pub struct AmountOn<K>(i64, PhantomData<K>);
+
+// An amount on channel C.
+pub type AmountC = AmountOn<Consumption>;
+
+// An amount on channel G.
+pub type AmountG = AmountOn<Generation>;
 
 // What amounts of either channel have in common, for code that serves both.
 pub trait Amount: Copy {
@@ -47,40 +96,21 @@ pub trait Amount: Copy {
         ensures { result ≡ watt_hours self };
 }
 
-impl Amount for AmountC {
-    ghost on = { OnC };
+impl<K: OneChannel> Amount for AmountOn<K> {
+    ghost on = { K.OneChannel.it };
 
     ghost watt_hours = { λ a. a.0 };
 
     fn channel() -> Channel {
-        Channel::C
+        K::it()
     }
 
-    fn from_wh(wh: i64) -> AmountC {
-        AmountC(wh)
-    }
-
-    fn wh(self) -> i64 {
-        let AmountC(number) = self;
-        number
-    }
-}
-
-impl Amount for AmountG {
-    ghost on = { OnG };
-
-    ghost watt_hours = { λ a. a.0 };
-
-    fn channel() -> Channel {
-        Channel::G
-    }
-
-    fn from_wh(wh: i64) -> AmountG {
-        AmountG(wh)
+    fn from_wh(wh: i64) -> AmountOn<K> {
+        AmountOn(wh, PhantomData)
     }
 
     fn wh(self) -> i64 {
-        let AmountG(number) = self;
+        let AmountOn(number, _) = self;
         number
     }
 }

@@ -5,7 +5,7 @@ ghost use Rattle.terms.specs.Figures.{mwh_text, unsigned_mwh};
 use std::fmt;
 
 // Watt-hours, printed in MWh with six decimals.
-#[derive(Clone, Copy, PartialEq, Eq)]
+#[derive(Clone, Copy, Debug, PartialEq, Eq)]
 pub struct Mwh(pub i64);
 
 // The same without a sign.
@@ -15,17 +15,9 @@ struct UnsignedMwh(u64);
 impl fmt::Display for UnsignedMwh {
     ghost output = { λ x. Some (unsigned_mwh x.0) };
 
+    #[tactic(auto, using(crate::proofs::Decimals::in_mwh))]
     fn fmt<W: fmt::Write>(&self, f: &mut fmt::Formatter<W>) -> fmt::Result {
-        let whole = self.0 / 1_000_000;
-        let sixth = self.0;
-        let fifth = sixth / 10;
-        let fourth = fifth / 10;
-        let third = fourth / 10;
-        let second = third / 10;
-        let first = second / 10;
-        let (a, b, c) = (first % 10, second % 10, third % 10);
-        let (d, e, g) = (fourth % 10, fifth % 10, sixth % 10);
-        write!(f, "{whole}.{a}{b}{c}{d}{e}{g}")
+        write!(f, "{}.{:06}", self.0 / 1_000_000, self.0 % 1_000_000)
     }
 }
 

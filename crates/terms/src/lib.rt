@@ -6,6 +6,8 @@ mod channels;
 mod figures;
 mod refusals;
 
-pub use channels::{Amount, AmountC, AmountG, Channel, Place};
+pub use channels::{
+    Amount, AmountC, AmountG, AmountOn, Channel, Consumption, Generation, OneChannel, Place,
+};
 pub use figures::Mwh;
 pub use refusals::Refusal;

@@ -7,7 +7,7 @@ use std::fmt;
 
 // Each case holds the values of its place. A refused call has changed nothing of what it was given, but
 // for numbers that were lent to work in.
-#[derive(Clone, Copy, PartialEq, Eq)]
+#[derive(Clone, Copy, Debug, PartialEq, Eq)]
 pub enum Refusal {
     // A point entered with a letter that stands for no class.
     UnknownClass { point: usize },
@@ -39,7 +39,7 @@ pub enum Refusal {
 }
 
 impl Refusal {
-    // The number under which the refusal is reported.
+    // The number under which the refusal is reported, as the rules give it; in code a refusal is its case.
     pub fn number(self) -> u32
         ensures { result ≡ number_of self }
     {

@@ -1,5 +1,4 @@
 pub mod Entries
-pub mod Kinds
 pub mod Numbers
 pub mod Questions
 pub mod Service

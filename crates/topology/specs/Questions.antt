@@ -1,5 +1,5 @@
 -- What a tree is asked, over the list of its points.
-use Rattle.std.specs.Prelude.{◌≡◌, ℕ, zero, suc, ◌+◌, Bool, true, cond, List, [], ◌∷◌, length, Some, None, Option}
+use Rattle.std.specs.Prelude.{◌≡◌, ℕ, zero, suc, ◌+◌, Bool, true, List, [], ◌∷◌, length, Some, None, Option, if◌then◌else◌}
 use Rattle.std.specs.Option.{option_map}
 use Rattle.points.specs.Classes.{is_member, is_monitor}
 use Rattle.points.specs.Points.{point, class_of, point_at, joins, is_network, depth, Beneath}
@@ -16,7 +16,7 @@ parent_at ps p = option_map (λ q. q.parent) (point_at ps p)
 -- of the k numbers from p on, those that are picked, in order
 abbrev pub picked : (ℕ → Bool) → ℕ → ℕ → List ℕ
 picked picks p zero = []
-picked picks p (suc k) = cond (picks p) (p ∷ picked picks (p + 1) k) (picked picks (p + 1) k)
+picked picks p (suc k) = if picks p then p ∷ picked picks (p + 1) k else picked picks (p + 1) k
 
 -- the numbers of the members of network m
 abbrev pub members_of : List Point → ℕ → List ℕ
@@ -29,7 +29,7 @@ networks_of ps = picked (is_network ps) 0 (length ps + 1)
 -- A member's path is the network that it joins and those above, up to the main one: as many networks
 -- as the network that it joins is deep.
 abbrev pub path_by : List Point → Point → Option ℕ
-path_by ps q = cond (is_member q.class) (Some (depth ps q.parent)) None
+path_by ps q = if is_member q.class then Some (depth ps q.parent) else None
 
 abbrev pub path_length : List Point → ℕ → Option ℕ
 path_length ps p = path_by ps (point ps p)

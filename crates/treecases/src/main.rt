@@ -8,7 +8,7 @@
 use std::alloc::{AllocError, Global};
 use std::io;
 use topology::Tree;
-use treetext::read_tree;
+use treetext::{ReadError, read_tree};
 
 fn push_piece(text: &mut Vec<u8>, piece: &str) -> Result<(), AllocError> {
     for b in piece.bytes() {
@@ -28,8 +28,8 @@ fn spelled_out(heap: Global, case: &str) -> Result<Vec<u8>, AllocError> {
     let mut text = Vec::new(heap);
     for part in case.split(' ') {
         let (piece, times) = match part.split_once('*') {
-            Some((piece, times)) => (piece, times.parse::<usize>().unwrap_or(0)),
-            None => (part, 1),
+            Some((piece, times)) => (piece, times.parse().unwrap_or(0)),
+            None => (part, 1usize),
         };
         for _ in 0..times {
             push_piece(&mut text, piece)?;
@@ -39,53 +39,51 @@ fn spelled_out(heap: Global, case: &str) -> Result<Vec<u8>, AllocError> {
 }
 
 // Each network with the numbers of its members, as 0: 2 3; 3: 4 5.
-fn networks_of(heap: Global, tree: &Tree) -> Result<String, AllocError> {
-    let mut shown = String::new(heap);
+fn write_networks(shown: &mut String, tree: &Tree) -> Result<(), AllocError> {
     for network in tree.networks() {
-        let head = format!(in heap; "; {network}:")?;
-        shown.push_str(head.as_str())?;
+        write!(shown, "; {network}:")?;
         for member in tree.members(network) {
-            let item = format!(in heap; " {member}")?;
-            shown.push_str(item.as_str())?;
+            write!(shown, " {member}")?;
         }
     }
-    Ok(shown)
+    Ok(())
 }
 
 // For each point its class, its parent, the networks on its path, and whether it lies beneath point 3.
-fn points_of(heap: Global, tree: &Tree) -> Result<String, AllocError> {
-    let mut shown = String::new(heap);
+fn write_points(shown: &mut String, tree: &Tree) -> Result<(), AllocError> {
     for p in 0..tree.point_count() + 2 {
         if let (Some(class), Some(parent)) = (tree.class(p), tree.parent(p)) {
             let path = tree.path_len(p).unwrap_or(0);
             let mark = if tree.is_beneath(p, 3) { "<3" } else { "" };
-            let item = format!(in heap; " {class}{parent}.{path}{mark}")?;
-            shown.push_str(item.as_str())?;
+            write!(shown, " {class}{parent}.{path}{mark}")?;
         }
     }
-    Ok(shown)
+    Ok(())
 }
 
 fn outcome(heap: Global, case: &str) -> Result<String, AllocError> {
     let text = spelled_out(heap, case)?;
     let mut tree = Tree::built_in(heap)?;
-    match read_tree(heap, text.as_slice(), &mut tree)? {
-        Ok(()) => {
-            let count = tree.point_count();
-            let networks = networks_of(heap, &tree)?;
-            if count > 16 {
-                return format!(in heap; "{count} points{networks}");
-            }
-            let points = points_of(heap, &tree)?;
-            format!(in heap; "{count} points{networks};{points}")
+    let read = read_tree(heap, text.as_slice(), &mut tree);
+    let count = tree.point_count();
+    match read {
+        Ok(()) => {}
+        Err(ReadError::Refused(refusal)) => {
+            return format!(in heap; "{refusal}, and the tree has {count} points");
         }
-        Err(refusal) => {
-            let count = tree.point_count();
-            format!(in heap; "{refusal}, and the tree has {count} points")
-        }
+        Err(ReadError::OutOfMemory(error)) => return Err(error),
     }
+    let mut shown = format!(in heap; "{count} points")?;
+    write_networks(&mut shown, &tree)?;
+    if count <= 16 {
+        shown.push(';')?;
+        write_points(&mut shown, &tree)?;
+    }
+    Ok(shown)
 }
 
+// Goes over the lines as readingcases does. A library for these ten lines, with a trait for what a case gives, would be
+// longer than they are: no plainer.
 fn main(rt: HostRuntime) -> io::Result<()> {
     for line in rt.lines(rt.alloc()) {
         let case = line?;

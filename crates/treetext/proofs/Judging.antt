@@ -1,6 +1,7 @@
 -- What passing the tests of entering says of the point.
-use Rattle.std.proofs.Common.{◌≡◌, ℕ, ◌<◌, Bool, true, false, cond, eqb, ltb, List, length, Some, None, Option, sym, refl, ap, ◌∙◌, arith}
-use Rattle.std.proofs.lemmas.Bool.{eqb-true, ltb-true}
+use Rattle.std.proofs.Common.{◌≡◌, ℕ, ◌<◌, Bool, true, false, ltb, List, length, Some, None, Option, refl, ap, ◌∙◌, arith}
+use Rattle.std.proofs.lemmas.Bool.{ltb-true}
+use Rattle.std.proofs.lemmas.Bool.Decides.{nat_tests}
 use Rattle.terms.specs.Answers.{Answer, gives, tested}
 use Rattle.points.specs.Classes.{class_by, letter_of}
 use Rattle.topology.specs.Entries.{judged, judged_as, place}
@@ -11,19 +12,8 @@ use Rattle.points.specs.declared.classes.Point.{Point}
 use Rattle.points.proofs.Depths.{fits_le}
 
 -- a letter stands for one class, and each class has its letter
-one_letter : (b : Bool) (l v : ℕ) (d c : Class) (others : Option Class) → eqb l v ≡ b → letter_of d ≡ v
-    → (others ≡ Some c → letter_of c ≡ l) → cond b (Some d) others ≡ Some c → letter_of c ≡ l
-one_letter true l v d c others h e k is = let same : c ≡ d = cc is in ap letter_of same ∙ e ∙ sym (eqb-true l v h)
-one_letter false l v d c others h e k is = k is
-
 pub letter_of_class : (l : ℕ) (c : Class) → class_by l ≡ Some c → letter_of c ≡ l
-letter_of_class l c e =
-    one_letter (eqb l 82) l 82 Root c _ refl refl
-    (one_letter (eqb l 80) l 80 Member c _ refl refl
-    (one_letter (eqb l 77) l 77 Monitor c _ refl refl
-    (one_letter (eqb l 69) l 69 Embedded c _ refl refl
-    (λ none. let no : ◌≡◌ {A = ℕ} 0 1 = cc none in absurd (omega (arith, no))))))
-    e
+letter_of_class l c e = grind (arith, nat_tests)
 
 pub class_of_letter : (c : Class) → class_by (letter_of c) ≡ Some c
 class_of_letter Root = refl
@@ -34,7 +24,7 @@ class_of_letter Embedded = refl
 -- a test that did not refuse was passed
 pub passed : {T : Type 0} (b : Bool) (n : ℕ) (at : List ℕ) (next : Answer T) (x : T) → tested b n at next ≡ gives x → (b ≡ true) × (next ≡ gives x)
 passed true n at next x e = (refl, e)
-passed false n at next x e = let none : ◌≡◌ {A = ℕ} 0 1 = cc e in absurd (omega (arith, none))
+passed false n at next x e = absurd (cc e)
 
 -- what a point that passed every test has
 pub record Passed (ps : List Point) (letter m : ℕ) (q : Point) : Type 0 where
@@ -44,7 +34,7 @@ pub record Passed (ps : List Point) (letter m : ℕ) (q : Point) : Type 0 where
   pub fits : parent_fits ps (length ps) q.class m ≡ true
 
 passed_all : (ps : List Point) (letter m : ℕ) (q : Point) (o : Option Class) → class_by letter ≡ o → judged_as ps o m ≡ gives q → Passed ps letter m q
-passed_all ps letter m q None e is = let no : ◌≡◌ {A = ℕ} 0 1 = cc is in absurd (omega (arith, no))
+passed_all ps letter m q None e is = absurd (cc is)
 passed_all ps letter m q (Some c) e is =
     let first = passed (ltb (length ps) 128) 2 (place ps) _ q is in
     let second = passed (parent_fits ps (length ps) c m) 3 (place ps) _ q first.1 in

@@ -46,12 +46,6 @@ line_once a m b n xs ys hm hn e =
 same_judged : (ps : List Point) (a m b n : ℕ) {xs ys : List ℕ} → SameLine a m b n xs ys → judged ps a m ≡ judged ps b n
 same_judged ps a m b n l = ap (λ (x : ℕ). judged ps x m) l.letters ∙ ap (judged ps b) l.parents
 
-no_line : {X : Type 0} (a m : ℕ) (xs : List ℕ) → [] ≡ line_of a m ++ xs → X
-no_line a m xs e = let z : ◌≡◌ {A = ℕ} 0 1 = cc e in let none : ⊥ = omega arith in absurd none
-
-given_or_refused : {X T : Type 0} (x : T) (n : ℕ) (at : List ℕ) (a b : Answer T) → a ≡ b → a ≡ gives x → b ≡ refuses n at → X
-given_or_refused x n at a b s g r = let z : ◌≡◌ {A = ℕ} 0 1 = cc in let none : ⊥ = omega arith in absurd none
-
 -- ---- the points before the end, or before the first faulty line, are the same
 
 -- no line that passes follows
@@ -60,13 +54,13 @@ Ends ps text =
     (letter parent : ℕ) (rest : List ℕ) (q : Point) → parent < 1000 → text ≡ line_of letter parent ++ rest → judged ps letter parent ≡ gives q → ⊥
 
 ends_nil : (ps : List Point) → Ends ps []
-ends_nil ps letter parent rest q h e is = no_line letter parent rest e
+ends_nil ps letter parent rest q h e is = cc e
 
 ends_faulty : (ps : List Point) (text : List ℕ) (n : ℕ) (at : List ℕ) → Faulty ps text n at → Ends ps text
 ends_faulty ps text n at (inl odd) letter parent rest q h e is = odd.1 letter parent rest h e
 ends_faulty ps text n at (inr bad) letter parent rest q h e is =
     let line = line_once letter parent bad.0 bad.1 rest bad.2 h bad.3 (sym e ∙ bad.4) in
-    given_or_refused q n at (judged ps letter parent) (judged ps bad.0 bad.1) (same_judged ps letter parent bad.0 bad.1 line) is bad.5
+    let both : ◌≡◌ {A = Answer Point} (gives q) (refuses n at) = sym is ∙ same_judged ps letter parent bad.0 bad.1 line ∙ bad.5 in cc both
 
 -- the points qs pass behind ps, each behind those before it
 abbrev pub Behind : List Point → List Point → Type 0
@@ -128,7 +122,7 @@ faulty_once ps text m n at to (inr a) (inr b) =
 
 not_faulty : {X : Type 0} (ps : List Point) (text : List ℕ) (n : ℕ) (at : List ℕ) → [] ≡ text → Faulty ps text n at → X
 not_faulty ps text n at e (inl a) = let none : ⊥ = omega (arith, a.0, ap length e) in absurd none
-not_faulty ps text n at e (inr a) = no_line a.0 a.1 a.2 (e ∙ a.4)
+not_faulty ps text n at e (inr a) = absurd (cc (e ∙ a.4))
 
 read_or_not : {X : Type 0} (text : List ℕ) (xs : List Point) (n : ℕ) (at : List ℕ) → LinesRead text (gives xs) → LinesRead text (refuses n at) → X
 read_or_not text xs n at a b =

@@ -1,3 +1,3 @@
-pub mod Drafted
+pub mod Reads
 pub mod Shapes
 pub mod Text

@@ -1,18 +1,18 @@
 // The lines of a tree text.
 ghost use Rattle.std.specs.Prelude.{◌≡◌, ◌≤◌, length, MatchOption};
 ghost use Rattle.std.specs.Str.Parse.{AllDigits, digits_value};
-ghost use Rattle.treetext.specs.Shapes.{digits_ahead, NoParent, Opens, OpensParent, shaped};
+ghost use Rattle.treetext.specs.Shapes.{digits_ahead, NoParent, Opens, OpensParent, plain};
 ghost use Rattle.treetext.specs.Text.{Shapeless};
 
 // The most digits that a parent may have.
 const DIGIT_LIMIT: usize = 3;
 
-// A line that was read, and how many bytes it took.
+// A line that was read, and the text behind it.
 #[derive(Clone, Copy)]
-pub(crate) struct Line {
+pub(crate) struct Line<'a> {
     pub letter: u8,
     pub parent: usize,
-    pub len: usize,
+    pub rest: &'a [u8],
 }
 
 // How many digits the text begins with.
@@ -20,27 +20,18 @@ fn digits_ahead(text: &[u8]) -> usize
     ensures value { result ≡ digits_ahead text.now }
     ensures bound { result ≤ length text.now }
 {
-    for (i, b) in text.iter().enumerate() {
-        if !b.is_ascii_digit() {
-            return i;
-        }
-    }
-    text.len()
+    text.iter().take_while(|b| b.is_ascii_digit()).count()
 }
 
-// Whether the first digits of the text are a parent: one to three of them, no zero before others, and
-// a line feed behind them.
-fn is_parent(text: &[u8], digits: usize) -> bool
-    ensures { result ≡ shaped text.now digits }
+// Whether digits are a parent: one to three of them, and no zero before others.
+fn is_parent(digits: &[u8]) -> bool
+    ensures { result ≡ plain digits.now }
 {
-    digits > 0
-        && digits <= DIGIT_LIMIT
-        && digits < text.len()
-        && (digits == 1 || text[0] != b'0')
-        && text[digits] == b'\n'
+    !digits.is_empty() && digits.len() <= DIGIT_LIMIT && !matches!(digits, [b'0', _, ..])
 }
 
-// The number that one to three digits write.
+// The number that one to three digits write. `str::parse` would take a text that has to be made of the
+// digits first, and both steps have errors that cannot come here.
 fn number(digits: &[u8]) -> usize
     requires digits { AllDigits 10 digits.now }
     requires few { length digits.now ≤ 3 }
@@ -48,33 +39,33 @@ fn number(digits: &[u8]) -> usize
 {
     let mut n = 0;
     for b in digits {
-        n = n * 10 + (*b - b'0') as usize;
+        n = n * 10 + usize::from(*b - b'0');
     }
     n
 }
 
-// The parent that the text begins with, with its line feed, and how many bytes they take.
-fn read_parent(text: &[u8]) -> Option<(usize, usize)>
-    ensures { MatchOption result (NoParent text.now) (λ x. OpensParent text.now x.0 x.1) }
+// The parent that the text begins with, and the text behind its line feed.
+fn read_parent(text: &[u8]) -> Option<(usize, &[u8])>
+    ensures { MatchOption result (NoParent text.now) (λ x. OpensParent text.now x.0 x.1.now) }
 {
-    let count = digits_ahead(text);
-    if !is_parent(text, count) {
-        return None;
+    let (digits, behind) = text.split_at(digits_ahead(text));
+    match behind {
+        [b'\n', rest @ ..] if is_parent(digits) => Some((number(digits), rest)),
+        _ => None,
     }
-    Some((number(&text[0..count]), count + 1))
 }
 
 // The line that the text begins with: one byte for the class, a space, and the parent.
-pub(crate) fn read_line(text: &[u8]) -> Option<Line>
-    ensures { MatchOption result (Shapeless text.now) (λ l. Opens text.now l.letter l.parent l.len) }
+pub(crate) fn read_line(text: &[u8]) -> Option<Line<'_>>
+    ensures { MatchOption result (Shapeless text.now) (λ l. Opens text.now l.letter l.parent l.rest.now) }
 {
-    let [letter, b' ', rest @ ..] = text else {
+    let [letter, b' ', behind @ ..] = text else {
         return None;
     };
-    let (parent, len) = read_parent(rest)?;
+    let (parent, rest) = read_parent(behind)?;
     Some(Line {
         letter: *letter,
         parent,
-        len: len + 2,
+        rest,
     })
 }

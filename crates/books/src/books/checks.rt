@@ -7,22 +7,14 @@ use crate::books::Book;
 use crate::headers::Header;
 use terms::Refusal;
 
-// Whether the bytes are a book that keeps every rule.
-fn keeps_rules(bytes: &[u8]) -> bool
-    ensures { result ≡ well_formed bytes.now }
-{
-    Header::read(bytes).is_some()
-}
-
 impl Book<'_> {
     // Refuses bytes whose header or length breaks a rule.
     pub fn check(bytes: &[u8]) -> Result<(), Refusal>
         ensures { answered result ≡ book_tests bytes.now }
     {
-        if keeps_rules(bytes) {
-            Ok(())
-        } else {
-            Err(Refusal::BrokenBook)
+        match Header::read(bytes) {
+            Some(_) => Ok(()),
+            None => Err(Refusal::BrokenBook),
         }
     }
 }
@@ -32,5 +24,8 @@ impl Book<'_> {
 pub fn book_check(bytes: &[u8]) -> u32
     ensures { result ≡ (if well_formed bytes.now then 0 else 6) }
 {
-    if keeps_rules(bytes) { 0 } else { 6 }
+    match Book::check(bytes) {
+        Ok(()) => 0,
+        Err(refusal) => refusal.number(),
+    }
 }

@@ -13,11 +13,7 @@ const SUM_LIMIT: i64 = 5_760_000_000;
 fn checked<A: Amount>(amount: A) -> Option<A>
     ensures { MatchOption result (IsSum (A.Amount.watt_hours amount) → ⊥) (λ a. (a ≡ amount) × IsSum (A.Amount.watt_hours amount)) }
 {
-    let wh = amount.wh();
-    if wh < 0 || wh > SUM_LIMIT {
-        return None;
-    }
-    Some(amount)
+    matches!(amount.wh(), 0..=SUM_LIMIT).then_some(amount)
 }
 
 impl NetworkSums {
@@ -30,15 +26,11 @@ impl NetworkSums {
     ) -> Option<NetworkSums>
         ensures { MatchOption result (AreSums monitors_c.0 monitors_g.0 members_c.0 members_g.0 → ⊥) (λ s. SumsOf monitors_c monitors_g members_c members_g s) }
     {
-        let monitors_c = checked(monitors_c)?;
-        let monitors_g = checked(monitors_g)?;
-        let members_c = checked(members_c)?;
-        let members_g = checked(members_g)?;
         Some(NetworkSums {
-            monitors_c,
-            monitors_g,
-            members_c,
-            members_g,
+            monitors_c: checked(monitors_c)?,
+            monitors_g: checked(monitors_g)?,
+            members_c: checked(members_c)?,
+            members_g: checked(members_g)?,
         })
     }
 

@@ -1,5 +1,5 @@
 // Making a profile, and reading it.
-ghost use Rattle.std.specs.Prelude.{◌≡◌, ℕ, ◌<◌, ◌≤◌, [], ◌∷◌, Ok, Err};
+ghost use Rattle.std.specs.Prelude.{◌≡◌, ℕ, ◌<◌, ◌≤◌, [], ◌∷◌, OnOk, IfOk, IfErr};
 ghost use Rattle.terms.specs.Refusals.{number_of, place_of};
 ghost use Rattle.readings.specs.Profiles.{FirstOver, hour_limit, part, profile_at, Spread, Within};
 
@@ -12,16 +12,17 @@ const HOUR_LIMIT: u32 = 180_000_000;
 
 impl Profile {
     // Refuses the first amount above the limit.
+    #[tactic(auto, using(crate::proofs::Spreading::spread))]
     pub fn new(point: usize, amounts: [u32; 24]) -> Result<Profile, Refusal>
-        ensures made { elim result [ Ok p ↦ (p.point ≡ point) × (p.amounts ≡ amounts) × Within amounts | Err e ↦ ((h : ℕ) × FirstOver amounts h × (number_of e ≡ 9) × (place_of e ≡ point ∷ h ∷ [])) ] }
-        ensures spread { elim result [ Ok p ↦ Spread point amounts | Err e ↦ Unit {0} ] }
+        ensures made { IfOk result (λ p. (p.point ≡ point) × (p.amounts ≡ amounts)) }
+        ensures within { OnOk result (Within amounts) }
+        ensures spread { OnOk result (Spread point amounts) }
+        ensures first { IfErr result (λ e. (h : ℕ) × FirstOver amounts h × (number_of e ≡ 9) × (place_of e ≡ point ∷ h ∷ [])) }
     {
-        for (hour, amount) in amounts.iter().enumerate() {
-            if *amount > HOUR_LIMIT {
-                return Err(Refusal::ProfileTooLarge { point, hour });
-            }
+        match amounts.iter().position(|amount| *amount > HOUR_LIMIT) {
+            Some(hour) => Err(Refusal::ProfileTooLarge { point, hour }),
+            None => Ok(Profile { point, amounts }),
         }
-        Ok(Profile { point, amounts })
     }
 }
 

@@ -1,108 +1,95 @@
-// What the rules and limits look at, over a list of points.
-ghost use Rattle.std.specs.Prelude.{◌≡◌, ◌<◌, ◌≤◌, length, Decides, count_by};
+// What the rules, the limits and the questions look at.
+ghost use Rattle.std.specs.Prelude.{◌≡◌, ◌↔◌, IsTrue};
 ghost use Rattle.points.specs.Classes.{is_monitor};
-ghost use Rattle.points.specs.Points.{Beneath, class_of, depth, point_at};
-ghost use Rattle.points.specs.Rules.{Placed};
-ghost use Rattle.topology.specs.Kinds.{of_kind};
-ghost use Rattle.topology.specs.Questions.{path_by};
+ghost use Rattle.points.specs.Points.{Beneath, class_of, depth, is_network, members, networks, parent_of, point_at, roots};
+ghost use Rattle.topology.specs.Tables.{listed};
 
+use super::Table;
 use points::Point;
 
-// Point p, if there is one.
-pub(crate) fn point_at(points: &[Point], p: usize) -> Option<Point>
-    ensures { result ≡ point_at points.now p }
-{
-    if p == 0 || p > points.len() {
-        return None;
-    }
-    Some(points[p - 1])
-}
-
-// Whether point p monitors a network.
-pub(crate) fn is_monitor(points: &[Point], p: usize) -> bool
-    ensures { result ≡ is_monitor (class_of points.now p) }
-{
-    match point_at(points, p) {
-        Some(q) => q.class.is_monitor(),
-        None => false,
-    }
-}
-
-// What the limits count: roots, the members of a network, or monitors.
-#[derive(Clone, Copy)]
-pub(crate) enum Kind {
-    Root,
-    MemberOf(usize),
-    Monitor,
-}
-
-impl Kind {
-    pub(crate) fn has(self, q: Point) -> bool
-        ensures { result ≡ of_kind self q }
+impl Table {
+    // Point p, if there is one.
+    pub(crate) fn point_at(&self, p: usize) -> Option<Point>
+        ensures { result ≡ point_at (listed self.now) p }
     {
-        match self {
-            Kind::Root => q.class.is_root(),
-            Kind::MemberOf(network) => q.class.is_member() && q.parent == network,
-            Kind::Monitor => q.class.is_monitor(),
+        self.points().get(p.checked_sub(1)?).copied()
+    }
+
+    // The parent of point p, 0 where there is no such point.
+    fn parent(&self, p: usize) -> usize
+        ensures { result ≡ parent_of (listed self.now) p }
+    {
+        self.point_at(p).map_or(0, |q| q.parent)
+    }
+
+    // Whether point p monitors a network.
+    pub(crate) fn is_monitor(&self, p: usize) -> bool
+        ensures { result ≡ is_monitor (class_of (listed self.now) p) }
+    {
+        self.point_at(p).is_some_and(|q| q.class.is_monitor())
+    }
+
+    // Whether m is a network: 0 is the main one, any other has the number of its monitor.
+    pub(crate) fn is_network(&self, m: usize) -> bool
+        ensures { result ≡ is_network (listed self.now) m }
+    {
+        m == 0 || self.is_monitor(m)
+    }
+
+    pub(crate) fn roots(&self) -> usize
+        ensures { result ≡ roots (listed self.now) }
+    {
+        self.points().iter().filter(|q| q.class.is_root()).count()
+    }
+
+    // How many members a network has.
+    pub(crate) fn members(&self, network: usize) -> usize
+        ensures { result ≡ members (listed self.now) network }
+    {
+        self.points()
+            .iter()
+            .filter(|q| q.is_member_of(network))
+            .count()
+    }
+
+    // How many networks there are, with the main one.
+    pub(crate) fn networks(&self) -> usize
+        ensures { result ≡ networks (listed self.now) }
+    {
+        1 + self
+            .points()
+            .iter()
+            .filter(|q| q.class.is_monitor())
+            .count()
+    }
+
+    // The depth of a network, counted on the way up to the main one. This and the next are loops: a chain would need an
+    // iterator of its own here, longer than both, since the library takes its `successors` for endless. No plainer.
+    pub(crate) fn depth(&self, network: usize) -> usize
+        ensures { result ≡ depth (listed self.now) network }
+    {
+        let mut steps = 1;
+        let mut at = network;
+        while at > 0 {
+            at = self.parent(at);
+            steps += 1;
+        }
+        steps
+    }
+
+    // Whether the parents of a point, one above the other, come to the point `above`.
+    pub(crate) fn leads_to(&self, point: usize, above: usize) -> bool
+        ensures { IsTrue result ↔ (Beneath (listed self.now) above point) }
+    {
+        let mut at = point;
+        loop {
+            at = self.parent(at);
+            if at == above {
+                return true;
+            }
+            if at == 0 {
+                return false;
+            }
         }
     }
-}
-
-pub(crate) fn count(points: &[Point], kind: Kind) -> usize
-    ensures value { result ≡ count_by (of_kind kind) points.now }
-    ensures bound { result ≤ length points.now }
-{
-    let mut n = 0;
-    for q in points {
-        if kind.has(*q) {
-            n += 1;
-        }
-    }
-    n
-}
-
-// The depth of a network, counted on the way up to the main one.
-pub(crate) fn depth_of(points: &[Point], network: usize) -> usize
-    requires placed { Placed points.now }
-    requires few { length points.now ≤ 128 }
-    requires within { network ≤ length points.now }
-    ensures { result ≡ depth points.now network }
-{
-    let mut steps = 1;
-    let mut at = network;
-    while at > 0 {
-        at = points[at - 1].parent;
-        steps += 1;
-    }
-    steps
-}
-
-// How many networks the path of a point has, if it is a member.
-pub(crate) fn path_of(points: &[Point], q: Point) -> Option<usize>
-    requires placed { Placed points.now }
-    requires few { length points.now ≤ 128 }
-    requires within { q.parent ≤ length points.now }
-    ensures { result ≡ path_by points.now q }
-{
-    if q.class.is_member() {
-        Some(depth_of(points, q.parent))
-    } else {
-        None
-    }
-}
-
-// Whether the parents of a point, one above the other, come to the point `above`.
-pub(crate) fn leads_to(points: &[Point], point: usize, above: usize) -> bool
-    requires placed { Placed points.now }
-    requires some { 0 < above }
-    ensures { Decides result (Beneath points.now above point) }
-{
-    let mut at = point;
-    while let Some(q) = point_at(points, at) {
-        at = q.parent;
-        if at == above {
-            return true;
-        }
-    }
-    false
 }

@@ -1,5 +1,6 @@
 // The table as a list of points.
-ghost use Rattle.std.specs.Prelude.{◌≡◌, ◌<◌, ◌≤◌, [], ◌∷◌, ◌++◌, length, IfOk};
+ghost use Rattle.std.specs.Prelude.{◌≡◌, ◌<◌, [], ◌∷◌, ◌++◌, length, IfOk, IsTrue};
+ghost use Rattle.points.specs.Rules.{has_room, parent_fits};
 ghost use Rattle.topology.specs.Tables.{listed};
 
 use super::Table;
@@ -20,20 +21,21 @@ impl Table {
         self.records.as_slice()
     }
 
-    // One point more, where there is room.
+    // One point more, which passes the tests of entering.
     pub(crate) fn push(&mut self, point: Point)
-        requires { length (listed self.old) < 128 }
+        requires few { length (listed self.old) < 128 }
+        requires fits { IsTrue (parent_fits (listed self.old) (length (listed self.old)) point.class point.parent) }
+        requires room { IsTrue (has_room (listed self.old) point.class point.parent) }
         ensures { listed self.new ≡ listed self.old ++ point ∷ [] }
     {
         self.records.push_reserved(point);
     }
 
-    // Takes these points in place of its own.
-    pub(crate) fn refill(&mut self, points: &[Point])
-        requires { length points.now ≤ 128 }
-        ensures { listed self.new ≡ points.now }
+    // Takes the points of another table in place of its own.
+    pub(crate) fn refill(&mut self, from: &Table)
+        ensures { listed self.new ≡ listed from.now }
     {
         self.records.clear();
-        let _ = self.records.extend_from_slice(points);
+        let _ = self.records.extend_from_slice(from.points());
     }
 }

@@ -1,7 +1,7 @@
 use Rattle.std.proofs.Common.{◌≡◌, ◌/◌, length, string_bytes, ap, ◌∙◌, subst, arith}
 use Rattle.std.proofs.lemmas.Result.{IfOk-weaker}
 use Rattle.hourlist.specs.Lists.{first_hour, HoursOf}
-use Rattle.hourlist.proofs.Lines.{printed_lines, printed_report}
+use Rattle.hourlist.proofs.Lines.{printed_lines}
 use Rattle.hourlist.proofs.lists.hour_of.Goals as goal
 
 pub returns-in-Ok : goal.returns-in-Ok
@@ -13,12 +13,3 @@ returns-in-Ok c =
     (λ s e. printed_lines (first_hour book (length ps)) ps book (string_bytes s) c.first_hour.new.hours
     (c.in-Ok.ensures.tests ∙ ap (first_hour book) half) (subst (λ n. HoursOf book n c.first_hour.new.hours) half c.in-Ok.ensures.sums) e)
     c.hour_lines.ensures
-
-pub returns-in-Err : goal.returns-in-Err
-returns-in-Err c =
-    let ps = c.args.points.now in
-    let book = c.args.book.now in
-    let half : length c.args.hours.now / 2 ≡ length ps = omega (arith, c.requires) in
-    IfOk-weaker c.format.result _ _
-    (λ s e. printed_report (first_hour book (length ps)) ps book (string_bytes s) _ _ (c.in-Err.ensures.tests ∙ ap (first_hour book) half) e)
-    c.format.ensures.ok

@@ -1,33 +1,41 @@
-use Rattle.std.proofs.Common.{◌≡◌, ℕ, ◌+◌, ◌-◌, List, take, sym, ap, ◌∙◌, subst, arith}
-use Rattle.std.specs.Str.Parse.{AllDigits, digits_value}
-use Rattle.std.proofs.lemmas.List.{length-take-le}
+use Rattle.std.proofs.Common.{◌≡◌, ℕ, ◌-◌, List, ◌∷◌, ◌++◌, length, get_or, drop, take, sym, ap, ◌∙◌, subst, arith, rules}
+use Rattle.std.specs.Str.Parse.{AllDigits}
 use Rattle.std.proofs.lemmas.Bool.{both_ways}
-use Rattle.treetext.specs.Shapes.{digits_ahead, OpensParent}
-use Rattle.treetext.proofs.LineShapes.{numbered, numbered_from_shaped, shaped_from_numbered, digits_leading, opens_parent}
+use Rattle.std.proofs.lemmas.List.{drop_more, take_rest}
+use Rattle.treetext.specs.Shapes.{digits_ahead, plain, OpensParent}
+use Rattle.treetext.proofs.LineShapes.{digits_leading, no_parent, opens_parent}
 use Rattle.treetext.proofs.lines.read_parent.Goals as goal
+use Rattle.treetext.proofs.lines.read_parent.Goals.{in_default-via-then-behind-lt1, in_default-via-in-10+else-is_parent, in_default-via-else-behind-lt1+in_default-1}
 
-pub returns-then-not-is_parent : goal.returns-then-not-is_parent
-returns-then-not-is_parent c parent rest h e =
-    let text : List ℕ = c.args.text.now in
-    both_ways c.is_parent.result c.if-not-is_parent.true
-    (c.is_parent.ensures
-    ∙ shaped_from_numbered text c.digits_ahead-count.result c.digits_ahead-count.ensures.value (numbered parent h text rest e))
+-- the part in front of the first byte that is no digit
+all_digits : (text digits : List ℕ) (k : ℕ) → digits ≡ take k text → k ≡ digits_ahead text → AllDigits 10 digits
+all_digits text digits k front count =
+    subst (AllDigits 10) (sym (front ∙ ap (λ (i : ℕ). take i text) count)) (digits_leading text)
 
-pub number-requires : goal.number-requires
-number-requires c =
-    let text : List ℕ = c.args.text.now in
-    let count : digits_ahead text ≡ c.digits_ahead-count.result - 0 = omega arith in
-    let n = numbered_from_shaped text c.digits_ahead-count.result c.digits_ahead-count.ensures.value (sym c.if-not-is_parent.ensures) in
-    record {
-      digits = subst (λ (i : ℕ). AllDigits 10 (take i text)) count (digits_leading text);
-      few = omega (arith, n.few, length-take-le (c.digits_ahead-count.result - 0) text (omega arith));
-    }
+pub number-requires-clause-digits : goal.number-requires-clause-digits
+number-requires-clause-digits c =
+    all_digits c.args.text.now _ _ c.split_at.ensures.front c.digits_ahead.ensures.value
 
-pub returns : goal.returns
-returns c =
+pub returns-in-10 : goal.returns-in-10
+returns-in-10 c =
     let text : List ℕ = c.args.text.now in
-    let count = c.digits_ahead-count.ensures.value in
-    let whole : c.digits_ahead-count.result - 0 ≡ digits_ahead text = omega arith in
-    let n = numbered_from_shaped text c.digits_ahead-count.result count (sym c.if-not-is_parent.ensures) in
-    subst (λ (i : ℕ). OpensParent text c.number.result (i + 1)) (sym count)
-    (opens_parent text c.number.result n (c.number.ensures ∙ ap (λ (i : ℕ). digits_value 10 (take i text)) whole))
+    let digits : List ℕ = c.split_at.result.0.now in
+    let behind : List ℕ = c.split_at.result.1.now in
+    let feed : get_or behind 0 0 ≡ 10 = omega arith in
+    let apart = drop_more behind 0 0 c.in-10.len_at_least ∙ ap (λ b. b ∷ drop 1 behind) feed ∙ ap (λ xs. 10 ∷ xs) (sym (take_rest behind 1)) in
+    subst (λ n. OpensParent text n (take (length behind - 1) (drop 1 behind))) (sym c.number.ensures)
+    (opens_parent text digits _ (c.split_at.ensures.by_index.0 ∙ ap (λ xs. digits ++ xs) apart)
+    (all_digits text digits _ c.split_at.ensures.front c.digits_ahead.ensures.value) (sym c.if-is_parent.ensures))
+
+pub returns-in_default : goal.returns-in_default
+returns-in_default c =
+    let text : List ℕ = c.args.text.now in
+    let front : take (digits_ahead text) text ≡ c.split_at.result.0.now =
+    sym (c.split_at.ensures.front ∙ ap (λ (i : ℕ). take i text) c.digits_ahead.ensures.value) in
+    let back : drop (digits_ahead text) text ≡ c.split_at.result.1.now =
+    sym (c.split_at.ensures.back ∙ ap (λ (i : ℕ). drop i text) c.digits_ahead.ensures.value) in
+    no_parent text (λ rest feed good. elim c.in_default.branch [
+      | in_default-via-then-behind-lt1 w ↦ let some = ap length (sym back ∙ feed) in search rules
+      | in_default-via-in-10+else-is_parent w ↦ both_ways w.is_parent.result w.if-is_parent.false (w.is_parent.ensures ∙ sym (ap plain front) ∙ good)
+      | in_default-via-else-behind-lt1+in_default-1 w ↦ omega (arith, ap (λ xs. get_or xs 0 0) (sym back ∙ feed))
+    ])

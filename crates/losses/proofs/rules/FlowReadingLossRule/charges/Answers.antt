@@ -5,12 +5,10 @@ use Rattle.losses.proofs.rules.FlowReadingLossRule.charges.Goals as goal
 
 pub returns-then-sub-ge0 : goal.returns-then-sub-ge0
 returns-then-sub-ge0 c =
-    let s = c.args.sums in
-    flow_in s.monitors_c.0 s.monitors_g.0 s.members_c.0 s.members_g.0 (s.mc, s.mg, s.sc, s.sg) _ _
-    (omega (arith, ints, c.sub.ensures)) (omega (arith, ints, c.loss-loss.ensures)) c.on_c.ensures.1
+    let by = flow_in c.args.sums (omega (arith, ints, c.sub.ensures)) in
+    rw by (omega (arith, ints, c.on.ensures.c, c.loss-loss.ensures), c.on.ensures.g)
 
 pub returns-else-sub-ge0 : goal.returns-else-sub-ge0
 returns-else-sub-ge0 c =
-    let s = c.args.sums in
-    flow_out s.monitors_c.0 s.monitors_g.0 s.members_c.0 s.members_g.0 (s.mc, s.mg, s.sc, s.sg) _ _
-    (omega (arith, ints, c.sub.ensures)) c.on_g.ensures.0 (omega (arith, ints, c.loss-loss.ensures))
+    let by = flow_out c.args.sums (omega (arith, ints, c.sub.ensures)) in
+    rw by (c.on-else-sub-ge0.ensures.c, omega (arith, ints, c.on-else-sub-ge0.ensures.g, c.loss-loss.ensures))

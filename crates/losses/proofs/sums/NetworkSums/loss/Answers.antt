@@ -4,6 +4,4 @@ use Rattle.losses.proofs.Charging.{loss_is}
 use Rattle.losses.proofs.sums.NetworkSums.loss.Goals as goal
 
 pub returns : goal.returns
-returns c =
-    let s = c.args.self in
-    omega (arith, ints, loss_is s.monitors_c.0 s.monitors_g.0 s.members_c.0 s.members_g.0 (s.mc, s.mg, s.sc, s.sg), c.sub.ensures, c.sub-2.ensures)
+returns c = let s = c.args.self in omega (arith, ints, loss_is s, s.mc, s.mg, s.sc, s.sg, c.sub.ensures, c.sub-2.ensures)

@@ -1,20 +1,10 @@
-use Rattle.std.proofs.Common.{sym, ◌∙◌, arith, rules}
-use Rattle.topology.proofs.Picking.{picked_here, picked_later}
+use Rattle.std.proofs.Common.{rules}
+use Rattle.topology.specs.Numbers.{picks}
+use Rattle.topology.specs.Tables.{listed}
+use Rattle.topology.proofs.Picking.{found}
 use Rattle.topology.proofs.numbers.NumbersIterator.next.Goals as goal
 
-pub returns-then-picks : goal.returns-then-picks
-returns-then-picks c =
-    record {
-      steps =
-          sym c.loop-self.invariant.0
-          ∙ picked_here c.loop-self.self.points.now c.loop-self.self.choice c.loop-self.self.next (omega arith) (sym c.if-picks.ensures);
-      goes = search rules;
-    }
-
-pub loop-self-preserved : goal.loop-self-preserved
-loop-self-preserved c = (
-  sym (picked_later c.loop-self.self.points.now c.loop-self.self.choice c.loop-self.self.next (omega arith) (sym c.if-picks.ensures))
-      ∙ c.loop-self.invariant.0,
-  c.loop-self.invariant.1,
-  omega arith,
-)
+pub returns-clause-steps : goal.returns-clause-steps
+returns-clause-steps c =
+    found (picks (listed c.args.self.now.table.now) c.args.self.now.choice) _ _ (λ x q h. search rules) (λ x q h. search rules)
+    _ _ _ c.find.ensures.ran
