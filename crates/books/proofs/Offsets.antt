@@ -78,7 +78,7 @@ module _ (len : ℕ) (x : Header) (r : Rules len x) where
   offset_apart p q h k ne = apart_on p.channel q.channel p q h k (λ s. ne (same_place q p s.0 s.1 s.2))
 
 -- the amount of a place lies inside the bytes
-offset_inside : (bs : List ℕ) (x : Header) (p : Place) → Some x ≡ lawful_header bs → holds x p ≡ true → offset x p + 4 ≤ length bs
+pub offset_inside : (bs : List ℕ) (x : Header) (p : Place) → Some x ≡ lawful_header bs → holds x p ≡ true → offset x p + 4 ≤ length bs
 offset_inside bs x p read inside =
     let r = (was_read bs x read).1 in
     omega (arith, block_fits (length bs) x r p.channel, index_lt (length bs) x r p (inside_by x p inside))

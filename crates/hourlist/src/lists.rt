@@ -15,6 +15,9 @@ use treetext::{ReadError, read_tree};
 // The most bytes that the program takes for a book.
 const BOOK_LIMIT: usize = 60_000;
 
+// Two hour values for each of at most 128 points. They stand on the stack, so that they want no memory from the heap.
+const HOUR_VALUES: usize = 256;
+
 // Checks the book, and puts the hour values of hour 0 into the lent numbers.
 fn first_hour(book: &[u8], hours: &mut [i64]) -> Result<(), Refusal>
     ensures tests { answered result ≡ first_hour book.now (length hours.old / 2) }
@@ -69,8 +72,9 @@ pub fn hour_listing(heap: Global, text: &[u8], book: &[u8]) -> Result<String, Al
     let mut tree = Tree::built_in(heap)?;
     match read_tree(heap, text, &mut tree) {
         Ok(()) => {
-            let mut hours = vec![in heap; 0; 2 * tree.point_count()]?;
-            hour_of(heap, tree.points(), book, hours.as_mut_slice())
+            let mut hours = [0; HOUR_VALUES];
+            let used = &mut hours[0..2 * tree.point_count()];
+            hour_of(heap, tree.points(), book, used)
         }
         Err(ReadError::Refused(refusal)) => format!(in heap; "{refusal}\n"),
         Err(ReadError::OutOfMemory(error)) => Err(error),

@@ -37,8 +37,10 @@ pub(crate) fn write_raw(bytes: &mut Vec<u8>, case: Filled, change: Change) {
         .saturating_add(change.place.interval as usize)
         .saturating_add(skipped);
     let at = count.saturating_mul(4).saturating_add(12);
-    let places = bytes.iter_mut().skip(at);
-    for (place, byte) in places.zip(change.amount.to_be_bytes()) {
+    let Some(places) = bytes.as_mut_slice().get_mut(at..) else {
+        return;
+    };
+    for (place, byte) in places.iter_mut().zip(change.amount.to_be_bytes()) {
         *place = byte;
     }
 }

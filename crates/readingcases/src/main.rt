@@ -45,11 +45,11 @@ fn book_case(heap: Global, case: Filled, line: &str) -> Result<String, AllocErro
     worked(heap, &mut book, case, line)
 }
 
-// A book with nothing, on another source.
+// A book with nothing, on another source, or the refusal that this source is.
 fn pile_case<B: Source + Drop>(
     heap: Global,
     case: Filled,
-    backup: B,
+    backup: Result<B, Refusal>,
     line: &str,
 ) -> Result<String, AllocError> {
     let empty = Filled {
@@ -58,7 +58,10 @@ fn pile_case<B: Source + Drop>(
     };
     let mut bytes = filled(heap, empty)?;
     let main = WorkingBook::new(bytes.as_mut_slice());
-    worked(heap, &mut Pile { main, backup }, case, line)
+    match backup {
+        Ok(backup) => worked(heap, &mut Pile { main, backup }, case, line),
+        Err(refusal) => refused(heap, refusal),
+    }
 }
 
 // A book on what it lies on.
@@ -69,14 +72,20 @@ fn filled_case(
     line: &str,
 ) -> Result<String, AllocError> {
     let first = Profile::new(1, [case.amount; 24]);
-    let second = Profile::new(2, [case.amount.saturating_mul(2); 24]);
-    match (backup, first, second) {
-        (Backup::Nothing, _, _) => book_case(heap, case, line),
-        (Backup::Profile, Ok(backup), _) => pile_case(heap, case, backup, line),
-        (Backup::Pile, Ok(main), Ok(backup)) => {
-            pile_case(heap, case, Pile { main, backup }, line)
-        }
-        (_, Err(refusal), _) | (_, _, Err(refusal)) => refused(heap, refusal),
+    match backup {
+        Backup::Nothing => book_case(heap, case, line),
+        Backup::Profile => match first {
+            Ok(backup) => pile_case(heap, case, Ok(backup), line),
+            Err(refusal) => refused(heap, refusal),
+        },
+        Backup::Pile => match first {
+            Ok(main) => {
+                let second = Profile::new(2, [case.amount.saturating_mul(2); 24]);
+                let backup = second.map(|backup| Pile { main, backup });
+                pile_case(heap, case, backup, line)
+            }
+            Err(refusal) => refused(heap, refusal),
+        },
     }
 }
 

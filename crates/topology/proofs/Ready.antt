@@ -1,5 +1,8 @@
 -- Whether every network is ready, from the first that has no member.
-use Rattle.std.proofs.Common.{◌≡◌, ℕ, ◌+◌, ◌<◌, ◌≤◌, Bool, true, false, ◌&&◌, eqb, List, length, Some, None, Option, MatchOption, sym, ap, ◌∙◌, inl, inr, ⊎_elim, arith}
+use Rattle.std.proofs.Common.{◌≡◌, ℕ, ◌+◌, ◌<◌, ◌≤◌, Bool, true, false, not, if◌then◌else◌, ◌&&◌, ◌||◌, eqb, List, [], ◌∷◌, length, Some, None, Option, MatchOption, refl, sym, ap, ◌∙◌, inl, inr, ⊎_elim, arith}
+use Rattle.std.specs.List.{count_by, list_any}
+use Rattle.std.proofs.lemmas.Bool.Decides.{nat_tests}
+use Rattle.std.proofs.lemmas.List.Sums.{sum_by-cons}
 use Rattle.std.proofs.lemmas.Bool.{and_from, and_parts, cases_lt, eq-eqb, eqb-true, false≢true, or_cases}
 use Rattle.points.specs.Classes.{is_monitor}
 use Rattle.points.specs.Points.{is_network, point, members, roots}
@@ -7,6 +10,18 @@ use Rattle.points.specs.Rules.{Complete}
 use Rattle.topology.specs.Service.{FirstUnready, Unready}
 use Rattle.points.specs.declared.classes.Point.{Point}
 use Rattle.points.proofs.ByNumber.{point_past}
+
+-- that none passes is that none is counted
+module _ {X : Type 0} (p : X → Bool) where
+  none_more : (b some : Bool) (n : ℕ) → not some ≡ eqb n 0 → not (b || some) ≡ eqb ((if b then 1 else 0) + n) 0
+  none_more true some n e = grind (arith, nat_tests)
+  none_more false some n e = grind (arith, nat_tests)
+
+  pub none_counted : (xs : List X) → not (list_any p xs) ≡ eqb (count_by p xs) 0
+  none_counted [] = refl
+  none_counted (x ∷ xs) =
+      none_more (p x) (list_any p xs) (count_by p xs) (none_counted xs)
+      ∙ ap (λ n. eqb n 0) (sym (sum_by-cons (λ y. if p y then 1 else 0) x xs))
 
 -- m is a network without a member
 abbrev pub memberless : List Point → ℕ → Bool

@@ -1,5 +1,5 @@
 // The lines of a tree text.
-ghost use Rattle.std.specs.Prelude.{◌≡◌, ◌≤◌, length, MatchOption};
+ghost use Rattle.std.specs.Prelude.{◌≡◌, ◌≢◌, ◌≤◌, ◌∷◌, ℕ, List, length, MatchOption};
 ghost use Rattle.std.specs.Str.Parse.{AllDigits, digits_value};
 ghost use Rattle.treetext.specs.Shapes.{digits_ahead, NoParent, Opens, OpensParent, plain};
 ghost use Rattle.treetext.specs.Text.{Shapeless};
@@ -44,13 +44,23 @@ fn number(digits: &[u8]) -> usize
     n
 }
 
+// The text behind the line feed that it begins with.
+fn behind_feed(text: &[u8]) -> Option<&[u8]>
+    ensures { MatchOption result ((rest : List ℕ) → text.now ≢ 10 ∷ rest) (λ rest. text.now ≡ 10 ∷ rest.now) }
+{
+    match text {
+        [b'\n', rest @ ..] => Some(rest),
+        _ => None,
+    }
+}
+
 // The parent that the text begins with, and the text behind its line feed.
 fn read_parent(text: &[u8]) -> Option<(usize, &[u8])>
     ensures { MatchOption result (NoParent text.now) (λ x. OpensParent text.now x.0 x.1.now) }
 {
     let (digits, behind) = text.split_at(digits_ahead(text));
-    match behind {
-        [b'\n', rest @ ..] if is_parent(digits) => Some((number(digits), rest)),
+    match behind_feed(behind) {
+        Some(rest) if is_parent(digits) => Some((number(digits), rest)),
         _ => None,
     }
 }

@@ -17,7 +17,7 @@ fn amount_at(bytes: &[u8], at: usize) -> Option<u32>
     requires { at + 4 ≤ length bytes.now }
     ensures { result ≡ entry (long bytes.now at) }
 {
-    let number = u32::from_be_bytes(*bytes[at..].first_chunk().unwrap());
+    let number = u32::from_be_bytes(*bytes[at..at + 4].first_chunk().unwrap());
     (number != NOTHING).then_some(number)
 }
 

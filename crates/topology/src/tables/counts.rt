@@ -1,5 +1,5 @@
 // What the rules, the limits and the questions look at.
-ghost use Rattle.std.specs.Prelude.{◌≡◌, ◌↔◌, IsTrue};
+ghost use Rattle.std.specs.Prelude.{◌≡◌, ◌↔◌, ◌==◌, IsTrue};
 ghost use Rattle.points.specs.Classes.{is_monitor};
 ghost use Rattle.points.specs.Points.{Beneath, class_of, depth, is_network, members, networks, parent_of, point_at, roots};
 ghost use Rattle.topology.specs.Tables.{listed};
@@ -12,14 +12,7 @@ impl Table {
     pub(crate) fn point_at(&self, p: usize) -> Option<Point>
         ensures { result ≡ point_at (listed self.now) p }
     {
-        self.points().get(p.checked_sub(1)?).copied()
-    }
-
-    // The parent of point p, 0 where there is no such point.
-    fn parent(&self, p: usize) -> usize
-        ensures { result ≡ parent_of (listed self.now) p }
-    {
-        self.point_at(p).map_or(0, |q| q.parent)
+        self.points().get(p.wrapping_sub(1)).copied()
     }
 
     // Whether point p monitors a network.
@@ -52,6 +45,13 @@ impl Table {
             .count()
     }
 
+    // Whether a network has no member. It looks no further than the first one.
+    pub(crate) fn is_memberless(&self, m: usize) -> bool
+        ensures { result ≡ (members (listed self.now) m == 0) }
+    {
+        !self.points().iter().any(|q| q.is_member_of(m))
+    }
+
     // How many networks there are, with the main one.
     pub(crate) fn networks(&self) -> usize
         ensures { result ≡ networks (listed self.now) }
@@ -64,14 +64,18 @@ impl Table {
     }
 
     // The depth of a network, counted on the way up to the main one. This and the next are loops: a chain would need an
-    // iterator of its own here, longer than both, since the library takes its `successors` for endless. No plainer.
+    // iterator of its own here, longer than both, since the library takes its `successors` for endless. No plainer. A number
+    // that no point has reads as one that names 0.
     pub(crate) fn depth(&self, network: usize) -> usize
         ensures { result ≡ depth (listed self.now) network }
     {
         let mut steps = 1;
         let mut at = network;
         while at > 0 {
-            at = self.parent(at);
+            let Some(q) = self.point_at(at) else {
+                return steps + 1;
+            };
+            at = q.parent;
             steps += 1;
         }
         steps
@@ -83,12 +87,12 @@ impl Table {
     {
         let mut at = point;
         loop {
-            at = self.parent(at);
+            let Some(q) = self.point_at(at) else {
+                return above == 0;
+            };
+            at = q.parent;
             if at == above {
                 return true;
-            }
-            if at == 0 {
-                return false;
             }
         }
     }

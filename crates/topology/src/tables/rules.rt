@@ -54,6 +54,6 @@ impl Table {
         if self.roots() == 0 {
             return Some(0);
         }
-        (0..self.points().len() + 1).find(|m| self.is_network(*m) && self.members(*m) == 0)
+        (0..self.points().len() + 1).find(|m| self.is_network(*m) && self.is_memberless(*m))
     }
 }

@@ -1,11 +1,10 @@
-use Rattle.std.proofs.Common.{◌≡◌, ℕ, ◌-◌, List, ◌∷◌, ◌++◌, length, get_or, drop, take, sym, ap, ◌∙◌, subst, arith, rules}
+use Rattle.std.proofs.Common.{◌≡◌, ℕ, List, ◌++◌, drop, take, sym, ap, ◌∙◌, subst}
 use Rattle.std.specs.Str.Parse.{AllDigits}
 use Rattle.std.proofs.lemmas.Bool.{both_ways}
-use Rattle.std.proofs.lemmas.List.{drop_more, take_rest}
 use Rattle.treetext.specs.Shapes.{digits_ahead, plain, OpensParent}
 use Rattle.treetext.proofs.LineShapes.{digits_leading, no_parent, opens_parent}
 use Rattle.treetext.proofs.lines.read_parent.Goals as goal
-use Rattle.treetext.proofs.lines.read_parent.Goals.{in_default-via-then-behind-lt1, in_default-via-in-10+else-is_parent, in_default-via-else-behind-lt1+in_default-1}
+use Rattle.treetext.proofs.lines.read_parent.Goals.{in_default-via-in-Some+else-is_parent, in_default-via-in_default}
 
 -- the part in front of the first byte that is no digit
 all_digits : (text digits : List ℕ) (k : ℕ) → digits ≡ take k text → k ≡ digits_ahead text → AllDigits 10 digits
@@ -16,15 +15,13 @@ pub number-requires-clause-digits : goal.number-requires-clause-digits
 number-requires-clause-digits c =
     all_digits c.args.text.now _ _ c.split_at.ensures.front c.digits_ahead.ensures.value
 
-pub returns-in-10 : goal.returns-in-10
-returns-in-10 c =
+pub returns-in-Some : goal.returns-in-Some
+returns-in-Some c =
     let text : List ℕ = c.args.text.now in
     let digits : List ℕ = c.split_at.result.0.now in
-    let behind : List ℕ = c.split_at.result.1.now in
-    let feed : get_or behind 0 0 ≡ 10 = omega arith in
-    let apart = drop_more behind 0 0 c.in-10.len_at_least ∙ ap (λ b. b ∷ drop 1 behind) feed ∙ ap (λ xs. 10 ∷ xs) (sym (take_rest behind 1)) in
-    subst (λ n. OpensParent text n (take (length behind - 1) (drop 1 behind))) (sym c.number.ensures)
-    (opens_parent text digits _ (c.split_at.ensures.by_index.0 ∙ ap (λ xs. digits ++ xs) apart)
+    let rest : List ℕ = c.in-Some.rest.now in
+    subst (λ n. OpensParent text n rest) (sym c.number.ensures)
+    (opens_parent text digits rest (c.split_at.ensures.by_index.0 ∙ ap (λ xs. digits ++ xs) c.in-Some.ensures)
     (all_digits text digits _ c.split_at.ensures.front c.digits_ahead.ensures.value) (sym c.if-is_parent.ensures))
 
 pub returns-in_default : goal.returns-in_default
@@ -35,7 +32,6 @@ returns-in_default c =
     let back : drop (digits_ahead text) text ≡ c.split_at.result.1.now =
     sym (c.split_at.ensures.back ∙ ap (λ (i : ℕ). drop i text) c.digits_ahead.ensures.value) in
     no_parent text (λ rest feed good. elim c.in_default.branch [
-      | in_default-via-then-behind-lt1 w ↦ let some = ap length (sym back ∙ feed) in search rules
-      | in_default-via-in-10+else-is_parent w ↦ both_ways w.is_parent.result w.if-is_parent.false (w.is_parent.ensures ∙ sym (ap plain front) ∙ good)
-      | in_default-via-else-behind-lt1+in_default-1 w ↦ omega (arith, ap (λ xs. get_or xs 0 0) (sym back ∙ feed))
+      | in_default-via-in-Some+else-is_parent w ↦ both_ways w.is_parent.result w.if-is_parent.false (w.is_parent.ensures ∙ sym (ap plain front) ∙ good)
+      | in_default-via-in_default w ↦ w.in_default.ensures rest (sym back ∙ feed)
     ])

@@ -1,44 +1,35 @@
-use Rattle.std.proofs.Common.{◌≡◌, ◌<◌, ℕ, zero, suc, List, sym, refl, ◌∙◌, subst, ⊎_elim, arith}
-use Rattle.std.proofs.lemmas.Bool.{cases_lt, false≢true}
+use Rattle.std.proofs.Common.{◌≡◌, List, sym, refl, ap, ◌∙◌, subst, ⊎_elim, arith}
+use Rattle.std.proofs.lemmas.Bool.{cases_lt, eq-eqb, eqb-true}
 use Rattle.points.specs.Points.{parent_of, Beneath, child, deeper}
 use Rattle.points.specs.declared.classes.Point.{Point}
-use Rattle.points.proofs.Depths.{parent_earlier}
 use Rattle.points.proofs.Upwards.{by_parent, nothing_above}
 use Rattle.topology.specs.Tables.{listed}
+use Rattle.topology.proofs.Asking.{none_at, some_at}
 use Rattle.topology.proofs.tables.Table.leads_to.Goals as goal
 
--- a number with a parent is above 0
-named : (ps : List Point) (p : ℕ) → (parent_of ps p ≡ 0 → ⊥) → 0 < p
-named ps zero other = absurd (other refl)
-named ps (suc k) other = omega arith
-
-pub loop-at-smaller : goal.loop-at-smaller
-loop-at-smaller c =
+pub loop-q-preserved : goal.loop-q-preserved
+loop-q-preserved c =
     let ps : List Point = listed c.args.self.now in
-    let up = c.parent-at.ensures in
-    omega (arith, parent_earlier ps c.args.self.now.placed c.loop-at.at (named ps c.loop-at.at (λ e. c.if-at-eq0.false (up ∙ e))))
-
-pub loop-at-preserved : goal.loop-at-preserved
-loop-at-preserved c =
-    let ps : List Point = listed c.args.self.now in
-    let up = c.parent-at.ensures in (
-      (λ b. c.loop-at.invariant.0 (deeper (subst (Beneath ps c.args.above) up b))),
-      (λ b. subst (Beneath ps c.args.above) (sym up)
-          (by_parent ps c.args.above c.loop-at.at (λ e. c.if-at-above.false (up ∙ e)) (c.loop-at.invariant.1 b))),
+    let up : parent_of ps c.loop-q.at ≡ c.in-Some.q.parent = ap (λ (q : Point). q.parent) (some_at ps c.loop-q.at c.in-Some.q (sym c.in-Some.is ∙ c.point_at.ensures)).1 in (
+      (λ b. c.loop-q.invariant.0 (deeper (subst (Beneath ps c.args.above) (sym up) b))),
+      (λ b. subst (Beneath ps c.args.above) up
+          (by_parent ps c.args.above c.loop-q.at (λ e. c.if-at-above.false (sym up ∙ e)) (c.loop-q.invariant.1 b))),
     )
 
 pub returns-then-at-above : goal.returns-then-at-above
 returns-then-at-above c =
-    ((λ _. c.loop-at.invariant.0 (child (sym c.parent-at.ensures ∙ c.if-at-above.true))), (λ _. refl))
-
-pub returns-then-at-eq0 : goal.returns-then-at-eq0
-returns-then-at-eq0 c =
     let ps : List Point = listed c.args.self.now in
-    let up = c.parent-at.ensures in
-    let other = c.if-at-above.false in
-    let some : 0 < c.args.above = ⊎_elim (λ h. h) (λ none. absurd (other (omega arith))) (cases_lt 0 c.args.above) in (
-      (λ no_way. absurd (false≢true no_way)),
-      (λ b. absurd (nothing_above ps c.args.above some 0 refl
-          (subst (Beneath ps c.args.above) (sym up ∙ c.if-at-eq0.true)
-          (by_parent ps c.args.above c.loop-at.at (λ e. other (up ∙ e)) (c.loop-at.invariant.1 b))))),
+    let up : parent_of ps c.loop-q.at ≡ c.in-Some.q.parent = ap (λ (q : Point). q.parent) (some_at ps c.loop-q.at c.in-Some.q (sym c.in-Some.is ∙ c.point_at.ensures)).1 in
+    ((λ _. c.loop-q.invariant.0 (child (up ∙ c.if-at-above.true))), (λ _. refl))
+
+pub returns-in_default : goal.returns-in_default
+returns-in_default c =
+    let ps : List Point = listed c.args.self.now in
+    let none = none_at ps c.loop-q.at (sym c.in_default.is ∙ c.point_at.ensures) in
+    let top : parent_of ps c.loop-q.at ≡ 0 = ap (λ (q : Point). q.parent) none in (
+      (λ zero. c.loop-q.invariant.0 (child (top ∙ sym (eqb-true c.args.above 0 zero)))),
+      (λ b. ⊎_elim
+          (λ some. absurd (nothing_above ps c.args.above some c.loop-q.at none (c.loop-q.invariant.1 b)))
+          (λ few. eq-eqb c.args.above 0 (omega arith))
+          (cases_lt 0 c.args.above)),
     )
